@@ -1,19 +1,37 @@
-//! Programs of the goroutine machine.
+//! Programs of the goroutine machine: what a program file declares, and the check that makes a program of it.
+//!
+//! A file declares functions, channels, mutexes and label sets (`Parts`), each named in other statements by its
+//! place in its list. Statements are a tree: a loop holds statements, at most eight loops deep. `check` takes
+//! parts that lie in their limits and gives a `Program`: the function `main` is there, and no function and no
+//! loop is empty. So far it takes programs whose statements all are `work`.
+//!
+//! What a program does is its trace (`specs/Trace.antt`): the list of points that whoever runs a function passes.
+//! No code builds that list.
+//!
+//! The crate also has what all crates above share: `Memory` for want of memory, `Text`, and `Sequence`, a `Vec`
+//! that contracts see as a list, with `Content` for bytes.
 #![tactic(auto)]
 
 mod bad;
+mod frame;
 mod memory;
 mod parts;
+mod program;
 mod sequence;
 mod statement;
 mod text;
 
 pub use bad::Bad;
+pub use frame::Frame;
 pub use memory::Memory;
 pub use parts::{
     ChannelDecl, Channels, Function, Functions, LabelSet, LabelSets, MutexDecl, Mutexes, Pair,
     Pairs, Parts,
 };
+pub use program::{Program, check};
 pub use sequence::{Content, Sequence};
 pub use statement::{Stmt, Stmts, What};
 pub use text::Text;
+
+#[cfg(test)]
+mod tests;

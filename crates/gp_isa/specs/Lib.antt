@@ -1,0 +1,4 @@
+pub mod Statement
+pub mod Trace
+pub mod Limits
+pub mod Checked

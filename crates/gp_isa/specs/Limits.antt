@@ -1,0 +1,64 @@
+-- The limits of a program's parts, and what its statements may name. How long a trace may be isn't said here.
+use Rattle.std.specs.Prelude.{◌≡◌, ◌≤◌, ◌<◌, ◌+◌, ℕ, zero, suc, List, length, map, All, slice_index_or}
+use Rattle.std.specs.List.{IsDistinct}
+use Rattle.std.specs.Str.{bytes_eq}
+use Rattle.std.specs.Ordering.{nat_cmp}
+use Rattle.std.specs.Cmp.Lexicographic.{slice_cmp}
+use Rattle.std.specs.declared.cmp.Ordering.TheVariants.{Less}
+use Rattle.gp_isa.specs.declared.parts.Parts.{Parts}
+use Rattle.gp_isa.specs.declared.parts.Function.{Function}
+use Rattle.gp_isa.specs.declared.parts.ChannelDecl.{ChannelDecl}
+use Rattle.gp_isa.specs.declared.parts.MutexDecl.{MutexDecl}
+use Rattle.gp_isa.specs.declared.parts.LabelSet.{LabelSet}
+use Rattle.gp_isa.specs.declared.parts.Pair.{Pair}
+use Rattle.gp_isa.specs.declared.statement.Stmt.{Stmt}
+use Rattle.gp_isa.specs.declared.statement.What.TheOpen.{Work, Call, Loop, Send, Recv, Lock, Unlock, Spawn, Labels}
+use Rattle.gp_isa.specs.Statement.{Action, action_of}
+
+-- the names of one space: each at most 64 bytes long, and no two alike
+pub record AreNames (names : List (List ℕ)) : Type 0 where
+  pub short : All (λ name. length name ≤ 64) names
+  pub distinct : IsDistinct bytes_eq names
+
+-- a pair of a label set, its key of 1 to 64 bytes, its value of at most 64
+pub record IsPair (pair : Pair) : Type 0 where
+  pub named : 1 ≤ length pair.key
+  pub key : length pair.key ≤ 64
+  pub value : length pair.value ≤ 64
+
+-- The pairs of a label set: at most 16, the keys rising byte by byte, so that none stands twice.
+pub record ArePairs (pairs : List Pair) : Type 0 where
+  pub few : length pairs ≤ 16
+  pub each : All IsPair pairs
+  pub rising : (k : ℕ) (d : Pair) → k + 1 < length pairs → slice_cmp nat_cmp (slice_index_or pairs k d).key (slice_index_or pairs (k + 1) d).key ≡ Less
+
+-- Counts are at least 1, and what a statement names is there. `Within` says what a loop's body has to be.
+abbrev pub IsAction : Parts → (List Stmt → Type 0) → Action → Type 0
+IsAction parts Within (Work n) = 1 ≤ n
+IsAction parts Within (Call f) = f < length parts.functions
+IsAction parts Within (Loop n body end) = (1 ≤ n) × Within body
+IsAction parts Within (Send c) = c < length parts.channels
+IsAction parts Within (Recv c) = c < length parts.channels
+IsAction parts Within (Lock m) = m < length parts.mutexes
+IsAction parts Within (Unlock m) = m < length parts.mutexes
+IsAction parts Within (Spawn f) = f < length parts.functions
+IsAction parts Within (Labels s) = s ≤ length parts.labels
+
+-- the statements of a body in which loops stand at most `deep` inside each other
+abbrev pub AreStatements : Parts → ℕ → List Stmt → Type 0
+AreStatements parts zero body = All (λ s. IsAction parts (λ _. ⊥) (action_of s)) body
+AreStatements parts (suc deep) body = All (λ s. IsAction parts (AreStatements parts deep) (action_of s)) body
+
+-- The parts of a program file lie in its limits.
+pub record AreInLimits (parts : Parts) : Type 0 where
+  pub functions : length parts.functions ≤ 256
+  pub function_names : AreNames (map (λ (f : Function). f.name) parts.functions)
+  pub statements : All (λ f. AreStatements parts 8 f.body) parts.functions
+  pub channels : length parts.channels ≤ 1024
+  pub channel_names : AreNames (map (λ (c : ChannelDecl). c.name) parts.channels)
+  pub capacities : All (λ c. c.capacity ≤ 65535) parts.channels
+  pub mutexes : length parts.mutexes ≤ 1024
+  pub mutex_names : AreNames (map (λ (m : MutexDecl). m.name) parts.mutexes)
+  pub labels : length parts.labels ≤ 255
+  pub label_names : AreNames (map (λ (l : LabelSet). l.name) parts.labels)
+  pub pairs : All (λ l. ArePairs l.pairs) parts.labels
