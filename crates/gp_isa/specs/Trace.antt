@@ -1,36 +1,87 @@
--- The trace of a function: the points that whoever runs it passes, one after another. So far for functions
--- of `work` alone.
-use Rattle.std.specs.Prelude.{ℕ, List, [], ◌∷◌, replicate, Some, None, slice_get}
+-- The trace of a function: the points that whoever runs it passes, one after another. The code never builds this
+-- list.
+use Rattle.std.specs.Prelude.{ℕ, zero, suc, Bool, true, false, List, [], ◌∷◌, ◌++◌, length, map, replicate, Option, Some, None, slice_get}
 use Rattle.std.specs.List.{flat_map}
 use Rattle.gp_isa.specs.declared.frame.Frame.{Frame}
 use Rattle.gp_isa.specs.declared.parts.Parts.{Parts}
 use Rattle.gp_isa.specs.declared.statement.Stmt.{Stmt}
-use Rattle.gp_isa.specs.declared.statement.What.TheOpen.{Work}
+use Rattle.gp_isa.specs.declared.statement.What.TheOpen.{What-F, Work, Call, Loop, Send as SendStatement, Recv as RecvStatement, Lock as LockStatement, Unlock as UnlockStatement, Spawn as SpawnStatement, Labels as LabelsStatement}
 use Rattle.gp_isa.specs.Statement.{Action, action_of, line_of}
 
--- What is done at a point: an instruction of work.
+-- What is done at a point: an instruction of work, or that the goroutine's labels become a set; these two are
+-- local. Or, at a shared point, an operation on a channel or a mutex, or the birth of a goroutine.
 pub data Instruction : Type 0 where
   Local : Instruction
+  Labels : (set : ℕ) → Instruction
+  Send : (channel : ℕ) → Instruction
+  Recv : (channel : ℕ) → Instruction
+  Lock : (mutex : ℕ) → Instruction
+  Unlock : (mutex : ℕ) → Instruction
+  Spawn : (function : ℕ) → Instruction
+
+-- whether only the goroutine itself is touched
+abbrev pub is_local : Instruction → Bool
+is_local Local = true
+is_local (Labels set) = true
+is_local _ = false
 
 -- A point is its stack, the leaf first, and what is done there.
 pub record Point : Type 0 where
   pub stack : List Frame
   pub instruction : Instruction
 
--- `work n` at a line of function f is n local points, each with that one frame.
-abbrev pub points_at : ℕ → ℕ → Action → List Point
-points_at f line (Work n) = replicate n (record { stack = record { function = f; line = line } ∷ []; instruction = Local })
-points_at f line _ = []
+-- a point at a line of function f, with that one frame
+abbrev pub point_at : ℕ → ℕ → Instruction → Point
+point_at f line instruction = record { stack = record { function = f; line = line } ∷ []; instruction = instruction }
 
-abbrev pub points_of : ℕ → Stmt → List Point
-points_of f s = points_at f (line_of s) (action_of s)
+-- A call at a line of function f puts that frame last on a point of the function called.
+abbrev pub called_at : ℕ → ℕ → Point → Point
+called_at f line point = record { stack = point.stack ++ record { function = f; line = line } ∷ []; instruction = point.instruction }
 
-abbrev pub points_of_body : ℕ → List Stmt → List Point
-points_of_body f body = flat_map (points_of f) body
+-- a list n times, one after another
+abbrev pub repeated : ℕ → List Point → List Point
+repeated zero points = []
+repeated (suc n) points = points ++ repeated n points
 
--- the points of function f, none where there is no such function
-abbrev pub trace : Parts → ℕ → List Point
-trace parts f = elim (slice_get parts.functions f) as (λ _. List Point) [
-  | Some function ↦ points_of_body f function.body
+-- The points of what a statement at a line of function f does. `calls` gives the points of a function called,
+-- `inner` those of a loop's body.
+abbrev pub points_at : (ℕ → List Point) → (List Stmt → List Point) → ℕ → ℕ → Action → List Point
+-- `work n` is n local points
+points_at calls inner f line (Work n) = replicate n (point_at f line Local)
+-- `labels s` is one local point
+points_at calls inner f line (LabelsStatement s) = point_at f line (Labels s) ∷ []
+-- `loop n` gives the points of its body n times
+points_at calls inner f line (Loop n body end) = repeated n (inner body)
+-- a call has no point of its own
+points_at calls inner f line (Call h) = map (called_at f line) (calls h)
+-- the others are one shared point each
+points_at calls inner f line (SendStatement c) = point_at f line (Send c) ∷ []
+points_at calls inner f line (RecvStatement c) = point_at f line (Recv c) ∷ []
+points_at calls inner f line (LockStatement m) = point_at f line (Lock m) ∷ []
+points_at calls inner f line (UnlockStatement m) = point_at f line (Unlock m) ∷ []
+points_at calls inner f line (SpawnStatement h) = point_at f line (Spawn h) ∷ []
+
+-- the points of statements of function f, in which loops stand at most `deep` inside each other
+abbrev pub points_of_body : (ℕ → List Point) → ℕ → ℕ → List Stmt → List Point
+points_of_body calls f zero body = flat_map (λ s. points_at calls (λ _. []) f (line_of s) (action_of s)) body
+points_of_body calls f (suc deep) body = flat_map (λ s. points_at calls (points_of_body calls f deep) f (line_of s) (action_of s)) body
+
+-- the statements of function f, none where there is no such function
+abbrev pub body_of : Parts → ℕ → List Stmt
+body_of parts f = elim (slice_get parts.functions f) as (λ _. List Stmt) [
+  | Some function ↦ function.body
   | None ↦ []
 ]
+
+-- the points of function f, where `calls` gives those of the functions that it calls; loops stand at most 8 deep
+abbrev pub points_of : Parts → (ℕ → List Point) → ℕ → List Point
+points_of parts calls f = points_of_body calls f 8 (body_of parts f)
+
+-- the points of function f, with calls followed `depth` deep
+unfoldable pub trace_within : Parts → ℕ → ℕ → List Point
+trace_within parts zero f = points_of parts (λ _. []) f
+trace_within parts (suc depth) f = points_of parts (trace_within parts depth) f
+
+-- The trace of function f. Where no function can call itself, calls go no deeper than there are functions.
+unfoldable pub trace : Parts → ℕ → List Point
+trace parts f = trace_within parts (length parts.functions) f

@@ -1,0 +1,10 @@
+//! The machine: goroutines that workers run, and the journal of what happened.
+#![tactic(auto)]
+
+mod entry;
+mod goroutine;
+mod settings;
+
+pub use entry::{Counts, Ended, Entry, Journal, Refusals};
+pub use goroutine::{Goroutine, Status, Worker};
+pub use settings::{Picks, Request, Requests, Settings};
