@@ -115,12 +115,16 @@ abbrev pub wakes : ℕ → State → State
 wakes g state = queued g (with_goroutine g (woken_at state.clock (goroutine state g)) state)
 
 -- a goroutine is born of g, to run a function
+abbrev pub labels_at : Code → Goroutine → ℕ
+labels_at code g = labels_of (points_of code g) g.set g.count
+
+abbrev pub child_of : Code → ℕ → ℕ → State → Goroutine
+child_of code function g state = newborn function (labels_at code (goroutine state g)) state.last_epoch
+
 abbrev pub bears : Code → ℕ → ℕ → State → State
 bears code function g state =
-    let creator = goroutine state g in
-    let child = newborn function (labels_of (points_of code creator) creator.set creator.count) state.last_epoch in
     let after = queued (births state) state in
-    record after { goroutines = state.goroutines ++ child ∷ [] }
+    record after { goroutines = state.goroutines ++ child_of code function g state ∷ [] }
 
 -- What an operation's effect does to the state.
 unfoldable pub meets : Code → Settings → ℕ → ℕ → Effect → State → State

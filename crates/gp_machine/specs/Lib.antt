@@ -5,3 +5,5 @@ pub mod May
 pub mod Effect
 pub mod Run
 pub mod Frozen
+pub mod Waiting
+pub mod JournalLaw

@@ -3,8 +3,10 @@
 
 mod entry;
 mod goroutine;
+mod laws;
 mod settings;
 
 pub use entry::{Counts, Ended, Entry, Journal, Refusals};
 pub use goroutine::{Goroutine, Status, Worker};
+pub use laws::law_journal;
 pub use settings::{Picks, Request, Requests, Settings};

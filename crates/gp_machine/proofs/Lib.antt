@@ -1,0 +1,9 @@
+pub mod Places
+pub mod Whole
+pub mod Parts
+pub mod Lines
+pub mod Steps
+pub mod Acts
+pub mod Rows
+pub mod Law
+pub mod Allows
