@@ -6,10 +6,19 @@
 //! memory, and by none of the real ones.
 #![tactic(auto)]
 
+mod memory;
 mod sink;
 mod source;
 mod store;
+mod system;
+mod whole;
 
+pub use memory::{Calls, Files, MemSink, MemSource, MemStore};
 pub use sink::Sink;
 pub use source::{Failed, Source};
 pub use store::Store;
+pub use system::{FileSource, FolderStore, StandardOutput};
+pub use whole::{ReadError, read_all};
+
+#[cfg(test)]
+mod tests;
