@@ -7,7 +7,8 @@ use std::io::Read;
 use std::marker::Model;
 use std::rt::Files;
 
-/// A file of the system, which is opened at its first read. Contracts see its count of faults.
+/// A file of the system, which is opened at its first read. An opening that fails is a fault of that read, and is
+/// tried again at the next. Contracts see its path and its count of faults.
 #[derive(Drop)]
 pub struct FileSource<'a, R: Files> {
     rt: &'a R,
@@ -17,17 +18,17 @@ pub struct FileSource<'a, R: Files> {
 }
 
 impl<'a, R: Files> Model for FileSource<'a, R> {
-    ghost use Rattle.std.specs.Prelude.{ℕ};
+    ghost use Rattle.gp_io.specs.OfSystem.{SourceOfFile};
 
-    ghost Value = { ℕ };
+    ghost Value = { SourceOfFile };
 
-    ghost view = { λ s. s.faults };
+    ghost view = { λ s. record { path = s.path.now; faults = s.faults } };
 }
 
 impl<'a, R: Files> FileSource<'a, R> {
     /// A source of the file under this path, whether there is one or not.
     pub fn new(rt: &'a R, path: &'a str) -> FileSource<'a, R>
-        ensures { result ≡ 0 }
+        ensures { result ≡ record { path = path.now; faults = 0 } }
     {
         FileSource {
             rt,
@@ -57,7 +58,7 @@ fn read_opened<R: Files>(
 }
 
 impl<'a, R: Files> Source for FileSource<'a, R> {
-    ghost faults = { λ s. s };
+    ghost faults = { λ s. s.faults };
 
     ghost left = { λ _. None };
 
