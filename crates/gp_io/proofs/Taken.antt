@@ -1,5 +1,5 @@
 -- One piece after another from the front of what was left.
-use Rattle.std.proofs.Common.{◌≡◌, ℕ, ◌+◌, ◌-◌, ◌≤◌, List, ◌++◌, length, Option, None, Some, subst, arith, length-append, append_assoc}
+use Rattle.std.proofs.Common.{◌≡◌, ℕ, ◌-◌, ◌≤◌, List, ◌++◌, length, Option, None, Some, subst, arith, length-append, append_assoc}
 use Rattle.std.proofs.lemmas.Grind.{common_steps}
 use Rattle.gp_io.specs.Outside.{Takes, TakesAtMost}
 
