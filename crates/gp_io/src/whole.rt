@@ -83,7 +83,7 @@ fn read_block<S: Source>(
         → TakesAtMost (limit + 1 - vec_len bytes.old) (S.left source.old) (S.left source.new) }
     ensures end { IfOk result (λ n. n ≡ 0 → IfSome (S.left source.old) (λ held. held ≡ [])) }
 
-    ensures short { IsErrOf result ReadError.TooLong → ⊥ }
+    ensures never_too_long { IsErrOf result ReadError.TooLong → ⊥ }
     ensures fault { IsErrOf result ReadError.ReadFault → Rose (S.faults source.old) (S.faults source.new) }
     ensures ok_without_fault { OnOk result (S.faults source.new ≡ S.faults source.old) }
     ensures memory_without_fault { IsErrOf result ReadError.Memory → S.faults source.new ≡ S.faults source.old }

@@ -30,6 +30,7 @@ impl<'a, R: Files> Model for FolderStore<'a, R> {
 }
 
 impl<'a, R: Files> FolderStore<'a, R> {
+    /// The folder that the program runs in. `alloc` serves the names of the files before they are renamed.
     pub fn new(rt: &'a R, alloc: Global) -> FolderStore<'a, R>
         ensures { result ≡ 0 }
     {

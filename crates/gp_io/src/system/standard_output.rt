@@ -20,6 +20,7 @@ impl<'a, R: Print> Model for StandardOutput<'a, R> {
 }
 
 impl<'a, R: Print> StandardOutput<'a, R> {
+    /// The output of this runtime.
     pub fn new(rt: &'a R) -> StandardOutput<'a, R>
         ensures { result ≡ 0 }
     {
