@@ -12,14 +12,18 @@ use Rattle.gp_wire.specs.declared.profile.ValueType.{ValueType}
 use Rattle.gp_wire.specs.Varint.{varint}
 use Rattle.gp_wire.specs.Field.{Field, Number, Part, spelled}
 
--- an int64 as the wire has it: a negative one by its two's complement in 64 bits
-abbrev pub twos : ℤ → ℕ
-twos z = cast_unsigned w64 z
+-- an int64 as the wire has it: a negative one is its two's complement in 64 bits
+abbrev pub twos_complement : ℤ → ℕ
+twos_complement z = cast_unsigned w64 z
 
 -- A number that is 0 isn't written.
 unfoldable pub scalar : ℕ → ℕ → List Field
 scalar number zero = []
 scalar number (suc n) = record { number = number; value = Number (suc n) } ∷ []
+
+-- an int64 that isn't 0
+abbrev pub signed : ℕ → ℤ → List Field
+signed number z = scalar number (twos_complement z)
 
 -- a part of bytes, which is written even where it is empty
 abbrev pub part : ℕ → List ℕ → Field
@@ -44,17 +48,16 @@ optional number fields None = []
 optional number fields (Some item) = part number (spelled (fields item)) ∷ []
 
 abbrev pub value_type_fields : ValueType → List Field
-value_type_fields v = scalar 1 (twos v.kind) ++ scalar 2 (twos v.unit)
+value_type_fields v = signed 1 v.kind ++ signed 2 v.unit
 
 abbrev pub label_fields : Label → List Field
-label_fields l =
-    scalar 1 (twos l.key) ++ scalar 2 (twos l.text) ++ scalar 3 (twos l.num) ++ scalar 4 (twos l.num_unit)
+label_fields l = signed 1 l.key ++ signed 2 l.text ++ signed 3 l.num ++ signed 4 l.num_unit
 
 abbrev pub sample_fields : Sample → List Field
-sample_fields s = packed 1 s.location_ids ++ packed 2 (map twos s.values) ++ messages 3 label_fields s.labels
+sample_fields s = packed 1 s.location_ids ++ packed 2 (map twos_complement s.values) ++ messages 3 label_fields s.labels
 
 abbrev pub line_fields : Line → List Field
-line_fields l = scalar 1 l.function_id ++ scalar 2 (twos l.line)
+line_fields l = scalar 1 l.function_id ++ signed 2 l.line
 
 abbrev pub location_fields : Location → List Field
 location_fields l = scalar 1 l.id ++ messages 4 line_fields l.lines
@@ -62,10 +65,10 @@ location_fields l = scalar 1 l.id ++ messages 4 line_fields l.lines
 abbrev pub function_fields : Function → List Field
 function_fields f =
     scalar 1 f.id
-    ++ scalar 2 (twos f.name)
-    ++ scalar 3 (twos f.system_name)
-    ++ scalar 4 (twos f.filename)
-    ++ scalar 5 (twos f.start_line)
+    ++ signed 2 f.name
+    ++ signed 3 f.system_name
+    ++ signed 4 f.filename
+    ++ signed 5 f.start_line
 
 abbrev pub profile_fields : Profile → List Field
 profile_fields p =
@@ -74,10 +77,10 @@ profile_fields p =
     ++ messages 4 location_fields p.locations
     ++ messages 5 function_fields p.functions
     ++ texts 6 p.strings
-    ++ scalar 10 (twos p.duration)
+    ++ signed 10 p.duration
     ++ optional 11 value_type_fields p.period_type
-    ++ scalar 12 (twos p.period)
+    ++ signed 12 p.period
 
--- the bytes of a profile
+-- the canonical bytes of a profile
 unfoldable pub canon : Profile → List ℕ
 canon p = spelled (profile_fields p)

@@ -2,7 +2,7 @@ ghost use Rattle.std.specs.Prelude.{◌≡◌, ◌+◌, ◌*◌, [], ◌∷◌, 
 ghost use Rattle.std.specs.List.{flat_map};
 ghost use Rattle.gp_wire.specs.Varint.{varint};
 ghost use Rattle.gp_wire.specs.Field.{spelled};
-ghost use Rattle.gp_wire.specs.Canonical.{twos, scalar, part as one_part, packed};
+ghost use Rattle.gp_wire.specs.Canonical.{twos_complement, scalar, signed, part as one_part, packed};
 
 use gp_isa::Memory;
 use std::alloc::Global;
@@ -45,7 +45,7 @@ pub fn put_number(out: &mut Vec<u8>, number: u32, value: u64) -> Result<(), Memo
 
 /// Appends a number, unless it is 0. A negative one takes ten bytes.
 pub fn put_signed(out: &mut Vec<u8>, number: u32, value: i64) -> Result<(), Memory>
-    ensures { OnOk result (out.new.items ≡ out.old.items ++ spelled (scalar number (twos value))) }
+    ensures { OnOk result (out.new.items ≡ out.old.items ++ spelled (signed number value)) }
 {
     put_number(out, number, value.cast_unsigned())
 }
@@ -71,7 +71,7 @@ fn pack_words(out: &mut Vec<u8>, words: &[u64]) -> Result<(), Memory>
 }
 
 fn pack_values(out: &mut Vec<u8>, values: &[i64]) -> Result<(), Memory>
-    ensures { OnOk result (out.new.items ≡ out.old.items ++ flat_map varint (map twos values.now)) }
+    ensures { OnOk result (out.new.items ≡ out.old.items ++ flat_map varint (map twos_complement values.now)) }
 {
     for value in values {
         put_varint(out, value.cast_unsigned())?;
@@ -81,20 +81,15 @@ fn pack_values(out: &mut Vec<u8>, values: &[i64]) -> Result<(), Memory>
 
 /// Appends repeated numbers in one part, or nothing where there are none.
 #[tactic(auto, unfolding(crate::specs::Field::spelled, crate::specs::Canonical::packed))]
-pub fn put_words(
-    alloc: Global,
-    out: &mut Vec<u8>,
-    number: u32,
-    words: &[u64],
-) -> Result<(), Memory>
+pub fn put_words(alloc: Global, out: &mut Vec<u8>, number: u32, words: &[u64]) -> Result<(), Memory>
     ensures { OnOk result (out.new.items ≡ out.old.items ++ spelled (packed number words.now)) }
 {
     if words.is_empty() {
         return Ok(());
     }
-    let mut part = Vec::new(alloc);
-    pack_words(&mut part, words)?;
-    put_part(out, number, &part)
+    let mut packed_words = Vec::new(alloc);
+    pack_words(&mut packed_words, words)?;
+    put_part(out, number, &packed_words)
 }
 
 /// Appends repeated numbers in one part, or nothing where there are none.
@@ -105,12 +100,12 @@ pub fn put_values(
     number: u32,
     values: &[i64],
 ) -> Result<(), Memory>
-    ensures { OnOk result (out.new.items ≡ out.old.items ++ spelled (packed number (map twos values.now))) }
+    ensures { OnOk result (out.new.items ≡ out.old.items ++ spelled (packed number (map twos_complement values.now))) }
 {
     if values.is_empty() {
         return Ok(());
     }
-    let mut part = Vec::new(alloc);
-    pack_values(&mut part, values)?;
-    put_part(out, number, &part)
+    let mut packed_values = Vec::new(alloc);
+    pack_values(&mut packed_values, values)?;
+    put_part(out, number, &packed_values)
 }

@@ -9,14 +9,22 @@ use crate::profile::{Function, Label, Line, Location, Profile, Sample, ValueType
 use gp_isa::Memory;
 use std::alloc::Global;
 
+/// The numbers of the fields that are written.
 impl Profile {
     pub const SAMPLE_TYPE: u32 = 1;
+
     pub const SAMPLE: u32 = 2;
+
     pub const LOCATION: u32 = 4;
+
     pub const FUNCTION: u32 = 5;
+
     pub const STRING_TABLE: u32 = 6;
+
     pub const DURATION_NANOS: u32 = 10;
+
     pub const PERIOD_TYPE: u32 = 11;
+
     pub const PERIOD: u32 = 12;
 }
 
@@ -24,7 +32,12 @@ impl Message for Profile {
     ghost fields = { profile_fields };
 
     fn put(&self, alloc: Global, out: &mut Vec<u8>) -> Result<(), Memory> {
-        put_messages(alloc, out, Profile::SAMPLE_TYPE, self.sample_types.as_slice())?;
+        put_messages(
+            alloc,
+            out,
+            Profile::SAMPLE_TYPE,
+            self.sample_types.as_slice(),
+        )?;
         put_messages(alloc, out, Profile::SAMPLE, self.samples.as_slice())?;
         put_messages(alloc, out, Profile::LOCATION, self.locations.as_slice())?;
         put_messages(alloc, out, Profile::FUNCTION, self.functions.as_slice())?;
@@ -35,8 +48,10 @@ impl Message for Profile {
     }
 }
 
+/// The numbers of the fields that are written.
 impl ValueType {
     pub const TYPE: u32 = 1;
+
     pub const UNIT: u32 = 2;
 }
 
@@ -49,9 +64,12 @@ impl Message for ValueType {
     }
 }
 
+/// The numbers of the fields that are written.
 impl Sample {
     pub const LOCATION_ID: u32 = 1;
+
     pub const VALUE: u32 = 2;
+
     pub const LABEL: u32 = 3;
 }
 
@@ -59,16 +77,25 @@ impl Message for Sample {
     ghost fields = { sample_fields };
 
     fn put(&self, alloc: Global, out: &mut Vec<u8>) -> Result<(), Memory> {
-        put_words(alloc, out, Sample::LOCATION_ID, self.location_ids.as_slice())?;
+        put_words(
+            alloc,
+            out,
+            Sample::LOCATION_ID,
+            self.location_ids.as_slice(),
+        )?;
         put_values(alloc, out, Sample::VALUE, self.values.as_slice())?;
         put_messages(alloc, out, Sample::LABEL, self.labels.as_slice())
     }
 }
 
+/// The numbers of the fields that are written.
 impl Label {
     pub const KEY: u32 = 1;
+
     pub const STR: u32 = 2;
+
     pub const NUM: u32 = 3;
+
     pub const NUM_UNIT: u32 = 4;
 }
 
@@ -83,8 +110,10 @@ impl Message for Label {
     }
 }
 
+/// The numbers of the fields that are written.
 impl Location {
     pub const ID: u32 = 1;
+
     pub const LINE: u32 = 4;
 }
 
@@ -97,8 +126,10 @@ impl Message for Location {
     }
 }
 
+/// The numbers of the fields that are written.
 impl Line {
     pub const FUNCTION_ID: u32 = 1;
+
     pub const LINE: u32 = 2;
 }
 
@@ -111,11 +142,16 @@ impl Message for Line {
     }
 }
 
+/// The numbers of the fields that are written.
 impl Function {
     pub const ID: u32 = 1;
+
     pub const NAME: u32 = 2;
+
     pub const SYSTEM_NAME: u32 = 3;
+
     pub const FILENAME: u32 = 4;
+
     pub const START_LINE: u32 = 5;
 }
 

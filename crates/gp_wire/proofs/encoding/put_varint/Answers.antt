@@ -1,4 +1,4 @@
-use Rattle.std.proofs.Common.{◌∙◌, ◌++◌, sym, ap, List, ℕ, append_assoc}
+use Rattle.std.proofs.Common.{append_assoc}
 use Rattle.gp_wire.proofs.VarintLemmas.{varint-last, varint-more}
 use Rattle.gp_wire.proofs.encoding.put_varint.Goals as goal
 
