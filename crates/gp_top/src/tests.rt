@@ -1,7 +1,7 @@
 use super::*;
 use gp_io::{Calls, MemSink, MemSource, MemStore};
-use gp_isa::Content;
-use std::alloc::{AllocError, Global};
+use gp_isa::{Content, Memory};
+use std::alloc::Global;
 use std::test::Fail;
 
 // `goroutine.1.pb` of the program `a.gp` whose first statement stands on line 2.
@@ -13,16 +13,12 @@ const BYTES: [u8; 76] = [
     0x61, 0x2e, 0x67, 0x70, 0x5a, 0x04, 0x08, 0x01, 0x10, 0x02, 0x60, 0x01,
 ];
 
-fn words_of(alloc: Global, texts: &[&str]) -> Result<Vec<String>, AllocError> {
+fn words_of(alloc: Global, texts: &[&str]) -> Result<Vec<String>, Memory> {
     let mut words = Vec::new(alloc);
     for text in texts {
         words.push(text.to_string(alloc)?)?;
     }
     Ok(words)
-}
-
-fn calls(alloc: Global, numbers: &[u64]) -> Result<Calls, Fail> {
-    Ok(Calls::from_slice(alloc, numbers).ok().ok_or("memory")?)
 }
 
 // The status, and what the store then holds.
@@ -32,12 +28,12 @@ fn run(
     text: &[u8],
     failing_reads: &[u64],
     failing_puts: &[u64],
-) -> Result<(u8, MemStore), Fail> {
+) -> Result<(u8, MemStore), Memory> {
     let words = words_of(alloc, words)?;
-    let bytes = Content::from_slice(alloc, text).ok().ok_or("memory")?;
-    let mut source = MemSource::new(bytes, calls(alloc, failing_reads)?);
-    let mut store = MemStore::new(alloc, calls(alloc, failing_puts)?);
-    let mut sink = MemSink::new(alloc, calls(alloc, &[])?);
+    let bytes = Content::from_slice(alloc, text)?;
+    let mut source = MemSource::new(bytes, Calls::from_slice(alloc, failing_reads)?);
+    let mut store = MemStore::new(alloc, Calls::from_slice(alloc, failing_puts)?);
+    let mut sink = MemSink::new(alloc, Calls::new(alloc));
     let outcome = plain_top(alloc, words.as_slice(), &mut source, &mut store, &mut sink);
     Ok((outcome.status, store))
 }
@@ -48,7 +44,9 @@ const SMALLEST: &[u8] = b"func main {\nwork 1\n}\n";
 
 #[test]
 fn the_smallest_program_gives_its_profile(rt: HostRuntime) -> Result<(), Fail> {
-    let (status, store) = run(rt.alloc(), &WORDS, SMALLEST, &[], &[])?;
+    let (status, store) = run(rt.alloc(), &WORDS, SMALLEST, &[], &[])
+        .ok()
+        .ok_or("memory")?;
     assert_eq!(rt; status, status::DONE);
     let files = store.files();
     assert_eq!(rt; files.len(), 1);
@@ -92,9 +90,30 @@ const CASES: [(&str, &str, u64, u64, u8); 13] = [
 fn each_status_has_its_cause(rt: HostRuntime) -> Result<(), Fail> {
     for (instant, text, read, put, status) in CASES {
         let words = ["sim", "a.gp", "--at", instant];
-        let (found, store) = run(rt.alloc(), &words, text.as_bytes(), &[read], &[put])?;
+        let (found, store) = run(rt.alloc(), &words, text.as_bytes(), &[read], &[put])
+            .ok()
+            .ok_or("memory")?;
         assert_eq!(rt; found, status, "at {instant} {text}");
         assert_eq!(rt; store.files().is_empty(), status != status::DONE);
+    }
+    Ok(())
+}
+
+// With ample memory the job is done. Where an allocation is refused (`rt try --test --fail-alloc N`), the answer is want
+// of memory or a fault of the store, whose memory it was, and never other bytes.
+#[test]
+fn refused_memory_is_told(rt: HostRuntime) -> Result<(), Fail> {
+    let Ok((status, store)) = run(rt.alloc(), &WORDS, SMALLEST, &[], &[]) else {
+        return Ok(());
+    };
+    let files = store.files();
+    match status {
+        status::DONE => assert_eq!(rt; files.len(), 1),
+        status::MEMORY | status::PUT_FAULT => assert!(rt; files.is_empty()),
+        _ => assert!(rt; false, "status {status}"),
+    }
+    for file in files.iter() {
+        assert_eq!(rt; file.1.as_slice(), BYTES.as_slice());
     }
     Ok(())
 }

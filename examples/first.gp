@@ -1,0 +1,4 @@
+func main {
+work 1000
+work 500
+}
