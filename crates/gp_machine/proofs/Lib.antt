@@ -7,3 +7,4 @@ pub mod Acts
 pub mod Rows
 pub mod Law
 pub mod Allows
+pub mod Journals

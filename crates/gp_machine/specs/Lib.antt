@@ -7,3 +7,4 @@ pub mod Run
 pub mod Frozen
 pub mod Waiting
 pub mod JournalLaw
+pub mod Worked
