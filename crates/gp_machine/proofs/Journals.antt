@@ -23,7 +23,6 @@ with_traces program traces = record (code_of program) { points = λ f. get_or tr
 code_is : (program : Parts) (traces : List (List Point)) → ((f : ℕ) → trace program f ≡ get_or traces f []) → code_of program ≡ with_traces program traces
 code_is program traces same = λ i. record (code_of program) { points = λ f. same f i }
 
-
 -- A journal of a program with computed numbers.
 works : (code : Code) (settings : Settings) (journal : List Entry) (clock born left epoch : ℕ) → allows_all code settings (first code settings) journal ≡ true →
     (last code settings journal).clock ≡ clock → births (last code settings journal) ≡ born → live (last code settings journal) ≡ left → (last code settings journal).last_epoch ≡ epoch → Worked code settings journal clock born left epoch

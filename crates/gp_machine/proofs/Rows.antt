@@ -63,8 +63,8 @@ settled_set active gs g y one = changed (λ k x. SameBehind active (get_or gs k 
 settled_push : (active : ℕ) (gs : List Goroutine) (y : Goroutine) → is_behind active y ≡ false → Settled active gs (gs ++ y ∷ [])
 settled_push active gs y e =
     pushed (λ k x. SameBehind active (get_or gs k nobody) x) nobody gs y
-        (subst (λ x. SameBehind active x y) (sym (get_or_past gs (length gs) nobody (omega arith))) (record { same = e; place = λ b. absurd (true≢false (sym b)) }))
-        (λ k. same_behind active (get_or gs k nobody))
+    (subst (λ x. SameBehind active x y) (sym (get_or_past gs (length gs) nobody (omega arith))) (record { same = e; place = λ b. absurd (true≢false (sym b)) }))
+    (λ k. same_behind active (get_or gs k nobody))
 
 active_le : (s : State) → IsWhole s → s.active ≤ s.last_epoch
 active_le s whole = which whole.is_last
@@ -109,7 +109,7 @@ module _ (code : Code) (settings : Settings) (w g : ℕ) (s : State) (whole : Is
     faulted = λ cause cs ms some. leaver _ refl;
     bore = λ function room. passer (bears code function g s).goroutines 1 (settled_push s.active s.goroutines (child_of code function g s) (not_behind s.active (child_of code function g s) (active_le s whole)))
         (epoch_kept _ (pushed (λ k x. (goroutine s k).epoch ≤ x.epoch) nobody s.goroutines (child_of code function g s)
-            (subst (λ (x : Goroutine). x.epoch ≤ s.last_epoch) (sym (get_or_past s.goroutines (length s.goroutines) nobody (omega arith))) (omega arith)) (λ k. omega arith)));
+        (subst (λ (x : Goroutine). x.epoch ≤ s.last_epoch) (sym (get_or_past s.goroutines (length s.goroutines) nobody (omega arith))) (omega arith)) (λ k. omega arith)));
   })
 
 recorded_ahead : (s : State) (g : ℕ) → is_recorded s g ≡ true → s.active ≤ (goroutine s g).epoch
@@ -186,7 +186,7 @@ missing_insert code active n m zero (x ∷ xs) y e before after =
     rw (before, after, same) (head_row code active (suc n) (row code n x) xs (omega arith))
 missing_insert code active n m (suc g) (x ∷ xs) y e before after =
     later_at (row code m (get_or xs g nobody)) (row code n x) (missing code active (suc n) (set xs g y)) (missing code active (suc n) xs) (is_behind active x) (omega arith)
-        (missing_insert code active (suc n) m g xs y (omega arith) before after)
+    (missing_insert code active (suc n) m g xs y (omega arith) before after)
 
 -- where none is behind, nothing is missing
 pub missing_none : (code : Code) (active n : ℕ) (gs : List Goroutine) → ((k : ℕ) → is_behind active (get_or gs k nobody) ≡ false) → missing code active n gs ≡ []

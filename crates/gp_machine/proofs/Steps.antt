@@ -28,8 +28,8 @@ starts_whole w g s whole runnable known = record {
   on_worker = changed (λ n u. (k : ℕ) → u.runs ≡ Some k → (get_or (set s.goroutines g y) k nobody).status ≡ Running n) resting s.workers w (started g (worker s w))
       (λ k e. replaced_within (λ n x. n ≡ k → x.status ≡ Running w) nobody s.goroutines g y within (λ here. refl) (λ n other here. absurd (other (here ∙ sym (some_same e)))) k refl)
       (λ n k e. changed (λ m x. m ≡ k → x.status ≡ Running n) nobody s.goroutines g y
-          (λ here. let clash : Running n ≡ Runnable = sym (whole.on_worker n k e) ∙ subst (λ m. (goroutine s m).status ≡ Runnable) here runnable in absurd (cc))
-          (λ m here. subst (λ i. (goroutine s i).status ≡ Running n) (sym here) (whole.on_worker n k e)) k refl);
+      (λ here. let clash : Running n ≡ Runnable = sym (whole.on_worker n k e) ∙ subst (λ m. (goroutine s m).status ≡ Runnable) here runnable in absurd (cc))
+      (λ m here. subst (λ i. (goroutine s i).status ≡ Running n) (sym here) (whole.on_worker n k e)) k refl);
   waits = changed (λ n x. places_of s.channels s.mutexes n ≤ seats x.status) nobody s.goroutines g y (subst (λ t. places_of s.channels s.mutexes g ≤ seats t) runnable (whole.waits g)) whole.waits;
   epochs = changed (λ n x. Fits s.active s.last_epoch x) nobody s.goroutines g y (λ live. inl (has_last (whole.epochs g (live_status (goroutine s g) runnable refl)))) whole.epochs;
   is_last = whole.is_last;
@@ -37,8 +37,10 @@ starts_whole w g s whole runnable known = record {
   where
     y : Goroutine
     y = turned (Running w) (goroutine s g)
+
     within : g < length s.goroutines
     within = live_within s.goroutines g (live_status (goroutine s g) runnable refl)
+
     has_last : ((goroutine s g).epoch ≡ s.last_epoch) ⊎ Behind s.active s.last_epoch (goroutine s g) → (goroutine s g).epoch ≡ s.last_epoch
     has_last (inl same) = same
     has_last (inr behind) = which (or_cases (s.active == 0) ((goroutine s g).epoch == s.active) known) whole.is_last
@@ -97,8 +99,8 @@ records_whole g s whole some behind =
     let parts = behind_parts s.active (goroutine s g) behind in
     let end = active_last s whole some in
     frees s.goroutines s.workers s.channels s.mutexes s.active s.last_epoch whole g (recorded s.active (goroutine s g))
-        (λ w e. let same = running_last s w g whole (whole.on_worker w g e) in let below = parts.1 in omega arith)
-        (whole.waits g) (λ live. inl end)
+    (λ w e. let same = running_last s w g whole (whole.on_worker w g e) in let below = parts.1 in omega arith)
+    (whole.waits g) (λ live. inl end)
 
 -- no profile is active where one is asked for
 pub none_active : (settings : Settings) (s : State) → asked settings s ≡ true → s.active ≡ 0

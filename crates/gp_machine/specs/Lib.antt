@@ -8,3 +8,4 @@ pub mod Frozen
 pub mod Waiting
 pub mod JournalLaw
 pub mod Worked
+pub mod Numbers

@@ -39,8 +39,18 @@ with_channels channels functions = record { functions = functions; channels = ch
 -- one worker, the usual options, and requests
 abbrev pub plain : List Request → Settings
 plain requests = record {
-  workers = 1; at = requests; room = 1024; hz = 100; block = 0; mutex = 0; seed = 42; cells = 1024; entries = 262144;
-  ring = 131072; tags = 16384; picks = [];
+  workers = 1;
+  at = requests;
+  room = 1024;
+  hz = 100;
+  block = 0;
+  mutex = 0;
+  seed = 42;
+  cells = 1024;
+  entries = 262144;
+  ring = 131072;
+  tags = 16384;
+  picks = [];
 }
 
 abbrev one_row : ℕ → ℕ → ℕ → Row

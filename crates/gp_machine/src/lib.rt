@@ -8,5 +8,5 @@ mod settings;
 
 pub use entry::{Counts, Ended, Entry, Journal, Refusals};
 pub use goroutine::{Goroutine, Status, Worker};
-pub use laws::law_journal;
+pub use laws::{law_journal, law_numbers, law_runs, law_worked};
 pub use settings::{Picks, Request, Requests, Settings};
