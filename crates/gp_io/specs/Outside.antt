@@ -1,6 +1,6 @@
 -- What calls of the outside do: counts of faults, bytes taken, files put, bytes appended.
 -- What a source has left, a store holds and a sink was given is told by `Some`; by `None` nothing is told.
-use Rattle.std.specs.Prelude.{◌≡◌, ℕ, ◌+◌, ◌-◌, ◌^◌, ◌≤◌, min, not, List, [], ◌∷◌, ◌++◌, filter, take, Option, Some, None}
+use Rattle.std.specs.Prelude.{◌≡◌, ℕ, ◌+◌, ◌-◌, ◌^◌, ◌≤◌, min, not, List, [], ◌∷◌, ◌++◌, filter, take, length, Option, Some, None}
 use Rattle.std.specs.Str.{bytes_eq}
 
 -- A count of faults rose. At the end of its type, 2 ^ 64 - 1, it stands still.
@@ -12,6 +12,10 @@ pub record Rose (before now : ℕ) : Type 0 where
 abbrev pub Takes : Option (List ℕ) → List ℕ → Option (List ℕ) → Type 0
 Takes None bytes new = Unit {0}
 Takes (Some held) bytes new = (rest : List ℕ) × (held ≡ bytes ++ rest) × (new ≡ Some rest)
+
+-- Some bytes came from the front of what was left, at most this many.
+abbrev pub TakesAtMost : ℕ → Option (List ℕ) → Option (List ℕ) → Type 0
+TakesAtMost most old new = (bytes : List ℕ) × (length bytes ≤ most) × Takes old bytes new
 
 -- A file is its name and its bytes.
 abbrev pub File : Type 0

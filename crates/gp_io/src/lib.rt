@@ -2,14 +2,33 @@
 //!
 //! Each of the three is a trait with one call. A call that fails raises the value's count of faults, and a
 //! call that succeeds leaves it, so whoever knows the counts before and after knows whether something failed
-//! in between. What a source has left, a store holds and a sink was given is told by the implementations in
-//! memory, and by none of the real ones.
+//! in between. A count that has come to 2^64 - 1 stands still. What a source has left, a store holds and a sink
+//! was given is told by the implementations in memory, and by none of the real ones.
+//!
+//! Those in memory ([`MemSource`], [`MemStore`], [`MemSink`]) are given the numbers of the calls that are to
+//! fail. A call that fails, for its number or for want of memory, leaves what is held as it was.
+//!
+//! The real ones turn each error of the system into a fault. [`FileSource`] opens its path at its first read.
+//! [`FolderStore`] writes a file under a name that isn't taken and renames it, so that nothing half-written
+//! ever stands under the file's own name. For [`StandardOutput`] a write that takes nothing is a fault.
+//!
+//! [`read_all`] reads a source to its end, and takes at most one byte more than its limit to know that there
+//! is more.
 #![tactic(auto)]
 
+mod memory;
 mod sink;
 mod source;
 mod store;
+mod system;
+mod whole;
 
+pub use memory::{Calls, Files, MemSink, MemSource, MemStore};
 pub use sink::Sink;
 pub use source::{Failed, Source};
 pub use store::Store;
+pub use system::{FileSource, FolderStore, StandardOutput};
+pub use whole::{ReadError, read_all};
+
+#[cfg(test)]
+mod tests;
