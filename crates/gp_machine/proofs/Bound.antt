@@ -1,25 +1,24 @@
 -- How many entries can come once the journal is full: what is owed to the requests and to the active profile, and
 -- what workers still hold, falls with each entry then.
-use Rattle.std.proofs.Common.{◌≡◌, ◌⊎◌, ℕ, ◌+◌, ◌-◌, ◌*◌, ◌<◌, ◌≤◌, Bool, true, false, not, ◌&&◌, ◌||◌, ◌==◌, cond, List, [], ◌∷◌, ◌++◌, length, get_or, set, drop, replicate, sum_by, count_by, Option, Some, None, is_none, refl, sym, ap, ◌∙◌, subst, inl, inr, arith, zero, suc, true≢false, add-mul, one-mul, mul-le-mul_right}
-use Rattle.std.proofs.lemmas.List.Sums.{sum_by-cons, sum_by-set, count_by-le-length, length-filter}
-use Rattle.std.proofs.lemmas.Bool.{cases_lt, eq-eqb, ne_eqb}
+use Rattle.std.proofs.Common.{◌≡◌, ℕ, ◌+◌, ◌*◌, ◌<◌, ◌≤◌, Bool, true, false, not, ◌==◌, cond, List, [], ◌∷◌, length, get_or, set, drop, replicate, sum_by, count_by, Option, Some, is_none, refl, ap, ◌∙◌, arith, suc, add-mul, one-mul}
+use Rattle.std.proofs.lemmas.List.Sums.{sum_by-cons, sum_by-set, count_by-le-length}
+use Rattle.std.proofs.lemmas.Bool.{eq-eqb, ne_eqb}
 use Rattle.gp_machine.specs.declared.entry.Entry.{Entry}
 use Rattle.gp_machine.specs.declared.entry.Entry.TheVariants.{Start, Run, Op, Tick, Park, Open, Refuse, Record, Close}
 use Rattle.gp_machine.specs.declared.goroutine.Goroutine.{Goroutine}
 use Rattle.gp_machine.specs.declared.goroutine.Worker.{Worker}
 use Rattle.gp_machine.specs.declared.settings.Settings.{Settings}
 use Rattle.gp_machine.specs.Settings.{AreInRange}
-use Rattle.gp_machine.specs.State.{Code, State, nobody, resting, goroutine, worker, births, first, is_live, is_behind}
-use Rattle.gp_machine.specs.Due.{asked, over}
-use Rattle.gp_machine.specs.May.{May, MayOpen, MayRecord, MayClose}
-use Rattle.gp_machine.specs.Effect.{recorded, left, ticked, acts, after}
-use Rattle.gp_machine.proofs.Whole.{Whole, IsWhole, live_within}
+use Rattle.gp_machine.specs.State.{Code, State, nobody, resting, goroutine, worker, births, first, is_behind}
+use Rattle.gp_machine.specs.May.{May}
+use Rattle.gp_machine.specs.Effect.{recorded, left, ticked, after}
+use Rattle.gp_machine.proofs.Whole.{IsWhole, live_within}
 use Rattle.gp_machine.proofs.Parts.{one_if}
-use Rattle.gp_machine.proofs.Acts.{Cases, acts_all}
-use Rattle.gp_machine.proofs.Steps.{behind_parts, none_active, active_last}
-use Rattle.gp_machine.proofs.Rows.{SameBehind, Settled, IsQuiet, step_settled, not_behind}
-use Rattle.gp_machine.proofs.Going.{GoesOn, op_goes, run_goes, tick_due, no_tick_due, busy_within}
-use Rattle.gp_machine.proofs.Fates.{Continues, continues}
+use Rattle.gp_machine.proofs.Acts.{acts_all}
+use Rattle.gp_machine.proofs.Steps.{behind_parts, none_active}
+use Rattle.gp_machine.proofs.Rows.{Settled, IsQuiet, step_settled, not_behind}
+use Rattle.gp_machine.proofs.Going.{op_goes, run_goes, tick_due, no_tick_due, busy_within}
+use Rattle.gp_machine.proofs.Fates.{continues}
 use Rattle.gp_machine.proofs.Counting.{Numbered, IsNumbered, next_request, all_there}
 use Rattle.gp_machine.proofs.Law.{quiet_active}
 

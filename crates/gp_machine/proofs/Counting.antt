@@ -1,6 +1,6 @@
 -- The clock, the slices, the births and the epochs.
-use Rattle.std.proofs.Common.{◌≡◌, ◌⊎◌, ℕ, ◌+◌, ◌-◌, ◌*◌, ◌<◌, ◌≤◌, Bool, true, false, not, ◌&&◌, ◌||◌, ◌==◌, cond, List, [], ◌∷◌, ◌++◌, length, get_or, set, drop, replicate, sum_by, Some, None, refl, sym, ap, ◌∙◌, subst, inl, inr, arith, zero, suc, true≢false, if◌then◌else◌, length-set}
-use Rattle.std.proofs.lemmas.List.{set_past, get_or_past, length_push}
+use Rattle.std.proofs.Common.{◌≡◌, ◌⊎◌, ℕ, ◌+◌, ◌-◌, ◌*◌, ◌<◌, ◌≤◌, Bool, true, ◌==◌, List, [], ◌∷◌, length, get_or, set, drop, replicate, sum_by, Some, refl, sym, ap, ◌∙◌, inl, inr, arith, zero, suc, true≢false, length-set}
+use Rattle.std.proofs.lemmas.List.{set_past, length_push}
 use Rattle.std.proofs.lemmas.List.Sums.{sum_by-cons, sum_by-set}
 use Rattle.std.proofs.lemmas.Bool.{and_parts, cases_lt}
 use Rattle.gp_machine.specs.declared.entry.Entry.{Entry}
@@ -9,16 +9,14 @@ use Rattle.gp_machine.specs.declared.goroutine.Goroutine.{Goroutine}
 use Rattle.gp_machine.specs.declared.goroutine.Worker.{Worker}
 use Rattle.gp_machine.specs.declared.settings.Request.{Request}
 use Rattle.gp_machine.specs.declared.settings.Settings.{Settings}
-use Rattle.gp_machine.specs.Settings.{AreInRange, quantum}
-use Rattle.gp_machine.specs.State.{Code, State, nobody, resting, goroutine, worker, births, first, is_live}
-use Rattle.gp_machine.specs.Due.{asked, over, calls_for, has_come}
-use Rattle.gp_machine.specs.May.{May, IsDue}
-use Rattle.gp_machine.specs.Effect.{started, left, ticked, worked, unmarked, woken_at, child_of, acts, after}
-use Rattle.gp_machine.specs.Run.{AreLegal, after_all}
+use Rattle.gp_machine.specs.Settings.{quantum}
+use Rattle.gp_machine.specs.State.{Code, State, resting, worker, births, first}
+use Rattle.gp_machine.specs.Due.{asked, calls_for}
+use Rattle.gp_machine.specs.May.{May}
+use Rattle.gp_machine.specs.Effect.{started, left, ticked, worked, child_of, acts, after}
 use Rattle.gp_machine.proofs.Places.{changed}
-use Rattle.gp_machine.proofs.Whole.{Whole, IsWhole}
-use Rattle.gp_machine.proofs.Acts.{Cases, acts_all}
-use Rattle.gp_machine.proofs.Steps.{step_whole}
+use Rattle.gp_machine.proofs.Whole.{IsWhole}
+use Rattle.gp_machine.proofs.Acts.{acts_all}
 use Rattle.gp_machine.proofs.Going.{GoesOn, op_goes, run_extent, busy_within}
 
 -- `given` is the number of epochs given and requests left.

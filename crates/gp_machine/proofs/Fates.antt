@@ -1,24 +1,23 @@
 -- Faults, deaths and births.
-use Rattle.std.proofs.Common.{◌≡◌, ◌⊎◌, ℕ, ◌+◌, ◌<◌, ◌≤◌, Bool, true, false, not, ◌&&◌, ◌||◌, ◌==◌, List, [], ◌∷◌, ◌++◌, length, get_or, set, Some, None, refl, sym, ap, ◌∙◌, subst, inl, inr, arith, zero, suc, true≢false, if◌then◌else◌, length-set, eqb-true, nat_le, leb-true}
+use Rattle.std.proofs.Common.{◌≡◌, ◌⊎◌, ℕ, ◌+◌, ◌<◌, ◌≤◌, Bool, true, false, not, ◌||◌, ◌==◌, List, [], ◌∷◌, ◌++◌, length, get_or, set, refl, sym, ap, ◌∙◌, subst, inl, inr, arith, zero, suc, true≢false, if◌then◌else◌, length-set, eqb-true, leb-true}
 use Rattle.std.specs.List.{list_any}
-use Rattle.std.proofs.lemmas.List.{length_push, get_or_past}
-use Rattle.std.proofs.lemmas.Bool.{or_parts, or_cases, or_from, or_right, not-false, leb-false, eq-eqb}
+use Rattle.std.proofs.lemmas.List.{length_push}
+use Rattle.std.proofs.lemmas.Bool.{or_parts, or_cases, or_right, not-false, leb-false, eq-eqb}
 use Rattle.gp_machine.specs.declared.entry.Entry.{Entry}
 use Rattle.gp_machine.specs.declared.entry.Entry.TheVariants.{Start, Run, Op, Tick, Park, Open, Refuse, Record, Close}
 use Rattle.gp_machine.specs.declared.goroutine.Goroutine.{Goroutine}
 use Rattle.gp_machine.specs.declared.goroutine.Status.{Status}
 use Rattle.gp_machine.specs.declared.goroutine.Status.TheVariants.{Runnable, Running, Blocked, Faulted, Dead}
 use Rattle.gp_machine.specs.declared.settings.Settings.{Settings}
-use Rattle.gp_machine.specs.State.{Code, State, nobody, goroutine, worker, births, is_runnable, is_running, is_dead, is_live, running, first, main_goroutine}
+use Rattle.gp_machine.specs.State.{Code, State, nobody, goroutine, is_runnable, is_running, is_dead, is_live, first, main_goroutine}
 use Rattle.gp_machine.specs.Due.{over, is_full, is_ready, some_ready, IsComplete}
 use Rattle.gp_machine.specs.May.{May}
 use Rattle.gp_machine.specs.Effect.{turned, recorded, passed, is_over_after, unmarked, blocked_at, woken_at, child_of, acts, after}
-use Rattle.gp_machine.specs.Run.{AreLegal, IsLegal, after_all, last, at}
 use Rattle.gp_machine.specs.Numbers.{Grows, EndsOneWay}
 use Rattle.gp_machine.proofs.Places.{changed, pushed, none_counted}
-use Rattle.gp_machine.proofs.Whole.{Whole, IsWhole}
-use Rattle.gp_machine.proofs.Acts.{Cases, acts_all}
-use Rattle.gp_machine.proofs.Going.{GoesOn, op_goes, run_goes}
+use Rattle.gp_machine.proofs.Whole.{IsWhole}
+use Rattle.gp_machine.proofs.Acts.{acts_all}
+use Rattle.gp_machine.proofs.Going.{op_goes, run_goes}
 
 -- what a run that isn't over tells
 pub record Continues (settings : Settings) (s : State) : Type 0 where

@@ -1,13 +1,13 @@
 -- What the due entry tells of a worker that goes on.
-use Rattle.std.proofs.Common.{◌≡◌, ◌⊎◌, ℕ, ◌+◌, ◌-◌, ◌<◌, ◌≤◌, min, Bool, true, false, not, ◌&&◌, ◌||◌, ◌==◌, List, [], ◌∷◌, Some, None, refl, sym, ap, ◌∙◌, inl, inr, arith, if◌then◌else◌, length, get_or, true≢false, eqb-true, subst}
+use Rattle.std.proofs.Common.{◌≡◌, ◌⊎◌, ℕ, ◌-◌, ◌<◌, ◌≤◌, Bool, true, false, not, ◌||◌, ◌==◌, Some, None, refl, sym, ap, ◌∙◌, inl, inr, arith, if◌then◌else◌, length}
 use Rattle.std.proofs.lemmas.List.{get_or_past}
 use Rattle.std.proofs.lemmas.Bool.{or_parts, cases_lt, eqb-false}
 use Rattle.gp_machine.specs.declared.entry.Entry.{Entry}
-use Rattle.gp_machine.specs.declared.entry.Entry.TheVariants.{Start, Run, Op, Tick, Park, Open, Refuse, Record, Close}
+use Rattle.gp_machine.specs.declared.entry.Entry.TheVariants.{Run, Op, Tick, Park}
 use Rattle.gp_machine.specs.declared.settings.Settings.{Settings}
 use Rattle.gp_machine.specs.declared.goroutine.Worker.{Worker}
 use Rattle.gp_machine.specs.Settings.{quantum}
-use Rattle.gp_machine.specs.State.{Code, State, resting, goroutine, worker}
+use Rattle.gp_machine.specs.State.{Code, State, resting, worker}
 use Rattle.gp_machine.specs.Due.{asked, over, due, extent, next_instruction}
 use Rattle.gp_isa.specs.Trace.{is_local}
 

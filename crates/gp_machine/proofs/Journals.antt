@@ -1,19 +1,16 @@
 -- The worked journals, computed.
-use Rattle.std.proofs.Common.{◌≡◌, ℕ, zero, suc, Bool, true, false, List, [], ◌∷◌, ◌++◌, get_or, refl, sym, ap, subst, replicate}
+use Rattle.std.proofs.Common.{◌≡◌, ℕ, zero, suc, true, false, List, [], ◌∷◌, ◌++◌, get_or, refl, sym, subst, replicate}
 use Rattle.gp_isa.specs.declared.parts.Parts.{Parts}
 use Rattle.gp_isa.specs.Statement.{action-work, action-spawn, action-send, action-recv, action-lock, action-unlock}
-use Rattle.gp_isa.specs.Trace.{Instruction, Local, Labels, Send, Recv, Lock, Unlock, Spawn, Point, point_at, trace, trace_within}
+use Rattle.gp_isa.specs.Trace.{Local, Send, Recv, Lock, Unlock, Spawn, Point, point_at, trace, trace_within}
 use Rattle.gp_stack.specs.Goroutine.{next_point, is_ended, stack_of, labels_of, local_ahead}
 use Rattle.gp_machine.specs.declared.entry.Entry.{Entry}
-use Rattle.gp_machine.specs.declared.settings.Request.{Request}
-use Rattle.gp_machine.specs.declared.settings.Request.TheVariants.{Clock, End}
 use Rattle.gp_machine.specs.declared.settings.Settings.{Settings}
-use Rattle.gp_machine.specs.State.{Code, State, code_of, first, births, live}
+use Rattle.gp_machine.specs.State.{Code, code_of, first, births, live}
 use Rattle.gp_machine.specs.Due.{over, asked, due, extent}
 use Rattle.gp_machine.specs.Effect.{meets, operates, after}
-use Rattle.gp_machine.specs.Run.{IsLegal, last, after_all}
-use Rattle.gp_machine.specs.Frozen.{frozen}
-use Rattle.gp_machine.specs.Worked.{Worked, EndsThere, smallest, smallest_settings, smallest_journal, SmallestProgram, wake, wake_settings, wake_journal, WokenBetween, pair, RoomForTwo, contended, ContendedMutex, deadlocked, Deadlocks, faulty, FaultOfUnlock, six, Ticks, long, FullJournal}
+use Rattle.gp_machine.specs.Run.{last}
+use Rattle.gp_machine.specs.Worked.{Worked, EndsThere, smallest, SmallestProgram, wake, WokenBetween, pair, RoomForTwo, contended, ContendedMutex, deadlocked, Deadlocks, faulty, FaultOfUnlock, six, Ticks, long, FullJournal}
 use Rattle.gp_machine.proofs.Allows.{allows_all, legal_from, not_legal}
 
 -- the code of a program, where the traces of its functions are these

@@ -1,30 +1,25 @@
 -- The journal law.
-use Rattle.std.proofs.Common.{◌≡◌, ◌⊎◌, ℕ, ◌+◌, ◌<◌, ◌≤◌, Bool, true, false, not, ◌&&◌, cond, List, [], ◌∷◌, ◌++◌, length, get_or, set, take, replicate, count_by, sum_by, Some, None, refl, sym, ap, ◌∙◌, subst, inl, inr, arith, zero, suc, true≢false, get_or-set_same}
-use Rattle.std.proofs.lemmas.List.{get_or_past, get_or-replicate}
-use Rattle.std.proofs.lemmas.Bool.{cases_lt, and_right, and_left, lt-ltb}
+use Rattle.std.proofs.Common.{◌≡◌, ◌⊎◌, ℕ, ◌+◌, ◌<◌, Bool, true, false, not, List, [], ◌∷◌, ◌++◌, get_or, take, replicate, sum_by, Some, None, refl, sym, ap, ◌∙◌, subst, inl, inr, arith, zero, suc, true≢false}
+use Rattle.std.proofs.lemmas.Bool.{and_left}
 use Rattle.std.proofs.lemmas.List.Sums.{sum_by-cons}
-use Rattle.gp_sync.specs.Operations.{Channel, Mutex, empty_channel, free_mutex}
-use Rattle.gp_stack.specs.declared.record.Record.{Record as Row}
-use Rattle.gp_stack.specs.Goroutine.{stack_of, labels_of}
+use Rattle.gp_sync.specs.Operations.{empty_channel, free_mutex}
 use Rattle.gp_machine.specs.declared.entry.Entry.{Entry}
 use Rattle.gp_machine.specs.declared.entry.Entry.TheVariants.{Start, Run, Op, Tick, Park, Open, Refuse, Record, Close}
 use Rattle.gp_machine.specs.declared.goroutine.Goroutine.{Goroutine}
-use Rattle.gp_machine.specs.declared.goroutine.Worker.{Worker}
 use Rattle.gp_machine.specs.declared.goroutine.Status.TheVariants.{Runnable, Running, Blocked, Faulted, Dead}
 use Rattle.gp_machine.specs.declared.settings.Settings.{Settings}
-use Rattle.gp_machine.specs.State.{Code, State, nobody, resting, goroutine, worker, is_running, is_live, is_dead, is_behind, points_of, first, main_goroutine}
-use Rattle.gp_machine.specs.May.{May, MayOpen, MayRecord, MayClose}
-use Rattle.gp_machine.specs.Effect.{recorded, with_goroutine, acts, after, labels_at}
-use Rattle.gp_machine.specs.Run.{AreLegal, IsLegal, after_all, last, at}
-use Rattle.gp_machine.specs.Frozen.{row, rows_from, frozen, rows_taken, inserted, sorted}
+use Rattle.gp_machine.specs.State.{Code, State, nobody, resting, goroutine, is_running, is_live, is_dead, is_behind, first, main_goroutine}
+use Rattle.gp_machine.specs.May.{May, MayOpen, MayRecord}
+use Rattle.gp_machine.specs.Effect.{recorded, after}
+use Rattle.gp_machine.specs.Run.{AreLegal, after_all, last, at}
+use Rattle.gp_machine.specs.Frozen.{row, rows_taken, inserted, sorted}
 use Rattle.gp_machine.specs.Waiting.{in_channel, in_mutex, places_of}
 use Rattle.gp_machine.specs.JournalLaw.{KeepsEpochs, StandsAs, has_close, EpochsHold, UnrecordedStand, RowsAreFrozen}
 use Rattle.gp_machine.proofs.Places.{changed, none_counted}
-use Rattle.gp_machine.proofs.Whole.{seats, Whole, IsWhole, Fits, Behind}
-use Rattle.gp_machine.proofs.Parts.{live_status}
-use Rattle.gp_machine.proofs.Acts.{Cases, acts_all}
-use Rattle.gp_machine.proofs.Steps.{step_whole, behind_parts, behind_from, active_last, none_active}
-use Rattle.gp_machine.proofs.Rows.{SamePlace, SameBehind, Settled, IsQuiet, step_settled, not_behind, missing, missing_same, missing_insert, missing_none, missing_all}
+use Rattle.gp_machine.proofs.Whole.{IsWhole, Behind}
+use Rattle.gp_machine.proofs.Acts.{acts_all}
+use Rattle.gp_machine.proofs.Steps.{step_whole, behind_from, active_last, none_active}
+use Rattle.gp_machine.proofs.Rows.{SamePlace, Settled, IsQuiet, step_settled, not_behind, missing, missing_same, missing_insert, missing_none, missing_all}
 
 -- The first state is whole.
 nothing_summed : {X : Type 0} (f : X → ℕ) (x : X) (n : ℕ) → f x ≡ 0 → sum_by f (replicate n x) ≡ 0

@@ -1,8 +1,6 @@
 -- Each part of an effect keeps a state whole.
-use Rattle.std.proofs.Common.{◌≡◌, ◌⊎◌, ℕ, ◌+◌, ◌<◌, ◌≤◌, Bool, true, false, not, ◌&&◌, ◌||◌, ◌==◌, cond, List, [], ◌∷◌, ◌++◌, length, get_or, set, count_by, sum_by, Some, None, refl, sym, ap, ◌∙◌, subst, inl, inr, arith, zero, suc, true≢false, if◌then◌else◌, eqb}
+use Rattle.std.proofs.Common.{◌≡◌, ◌⊎◌, ℕ, ◌+◌, ◌≤◌, Bool, true, false, not, ◌==◌, cond, List, set, Some, None, refl, sym, ap, ◌∙◌, subst, inl, inr, arith, true≢false, if◌then◌else◌}
 use Rattle.std.proofs.lemmas.Bool.{ne_eqb, eq-eqb}
-use Rattle.gp_isa.specs.Trace.{Instruction, Local, Labels, Send, Recv, Lock, Unlock, Spawn}
-use Rattle.gp_stack.specs.Goroutine.{is_ended, labels_of}
 use Rattle.gp_sync.specs.declared.effect.Effect.{Effect}
 use Rattle.gp_sync.specs.declared.effect.Effect.TheVariants.{Done, Blocks, Wakes, Fault}
 use Rattle.gp_sync.specs.Operations.{Channel, Mutex}
@@ -11,11 +9,11 @@ use Rattle.gp_machine.specs.declared.goroutine.Status.{Status}
 use Rattle.gp_machine.specs.declared.goroutine.Status.TheVariants.{Runnable, Running, Blocked, Faulted, Dead}
 use Rattle.gp_machine.specs.declared.goroutine.Worker.{Worker}
 use Rattle.gp_machine.specs.declared.settings.Settings.{Settings}
-use Rattle.gp_machine.specs.State.{Code, State, nobody, resting, goroutine, worker, is_running, is_dead, is_live, points_of, births}
-use Rattle.gp_machine.specs.Effect.{turned, passed, is_over_after, unmarked, blocked_at, woken_at, newborn, started, left, worked, with_goroutine, with_worker, starts, leaves, passes, blocks, faults, wakes, bears, resumes, meets}
+use Rattle.gp_machine.specs.State.{Code, State, nobody, resting, goroutine, worker, is_running, is_dead, is_live}
+use Rattle.gp_machine.specs.Effect.{turned, is_over_after, unmarked, blocked_at, woken_at, left, worked, with_goroutine, with_worker, passes, wakes, resumes, meets}
 use Rattle.gp_machine.specs.Waiting.{places_of}
-use Rattle.gp_machine.proofs.Places.{changed, replaced, replaced_within}
-use Rattle.gp_machine.proofs.Whole.{seats, Behind, Fits, Whole, IsWhole, some_same, Running-same, live_within, unloads, keeps_running, keeps_standing, frees, gains, lines}
+use Rattle.gp_machine.proofs.Places.{replaced, replaced_within}
+use Rattle.gp_machine.proofs.Whole.{seats, Behind, IsWhole, Running-same, live_within, unloads, keeps_running, keeps_standing, frees, lines}
 
 pub live_status : {st : Status} (x : Goroutine) → x.status ≡ st → is_dead st ≡ false → is_live x ≡ true
 live_status x e alive = ap (λ t. not (is_dead t)) e ∙ ap not alive

@@ -1,25 +1,21 @@
 -- While a profile is active, goroutines that are still behind stand where they stood.
-use Rattle.std.proofs.Common.{◌≡◌, ◌⊎◌, ℕ, ◌+◌, ◌<◌, ◌≤◌, Bool, true, false, not, ◌&&◌, ◌||◌, ◌==◌, cond, List, [], ◌∷◌, ◌++◌, length, get_or, set, take, Some, None, refl, sym, ap, ◌∙◌, subst, inl, inr, arith, zero, suc, true≢false, if◌then◌else◌, nat_lt, nat_le, count_by}
+use Rattle.std.proofs.Common.{◌≡◌, ◌⊎◌, ℕ, ◌+◌, ◌<◌, ◌≤◌, Bool, true, false, ◌&&◌, ◌==◌, List, [], ◌∷◌, ◌++◌, length, get_or, set, Some, refl, sym, ap, ◌∙◌, subst, inl, inr, arith, zero, suc, true≢false, if◌then◌else◌, nat_lt}
 use Rattle.std.proofs.lemmas.List.{get_or_past}
-use Rattle.std.proofs.lemmas.List.Sums.{sum_by-cons, count_by-le-length}
-use Rattle.std.proofs.lemmas.Bool.{and_right, and_parts, or_cases, le-ltb, ltb-true, lt-leb, le-leb, eqb-true, cases_Bool}
+use Rattle.std.proofs.lemmas.Bool.{and_right, or_cases, le-ltb, lt-leb, le-leb, eqb-true}
 use Rattle.gp_stack.specs.declared.record.Record.{Record as Row}
 use Rattle.gp_machine.specs.declared.entry.Entry.{Entry}
 use Rattle.gp_machine.specs.declared.entry.Entry.TheVariants.{Start, Run, Op, Tick, Park, Open, Refuse, Record, Close}
 use Rattle.gp_machine.specs.declared.goroutine.Goroutine.{Goroutine}
-use Rattle.gp_machine.specs.declared.goroutine.Status.TheVariants.{Runnable, Running, Blocked, Faulted, Dead}
+use Rattle.gp_machine.specs.declared.goroutine.Status.TheVariants.{Blocked}
 use Rattle.gp_machine.specs.declared.settings.Settings.{Settings}
-use Rattle.gp_machine.specs.State.{Code, State, nobody, goroutine, worker, is_dead, is_live, is_behind, points_of}
-use Rattle.gp_machine.specs.Due.{asked}
-use Rattle.gp_machine.specs.May.{May, MayStart, MayOpen, MayRecord, MayClose, is_recorded}
-use Rattle.gp_machine.specs.Effect.{recorded, with_goroutine, wakes, woken_at, passes, passed, bears, child_of, acts, after, unmarked}
-use Rattle.gp_machine.specs.Run.{AreLegal, IsLegal, after_all, last}
-use Rattle.gp_machine.specs.Frozen.{row, rows_from, frozen, rows_taken, inserted, sorted}
-use Rattle.gp_machine.proofs.Places.{changed, pushed, none_counted}
-use Rattle.gp_machine.proofs.Whole.{Whole, IsWhole, Fits, Behind}
-use Rattle.gp_machine.proofs.Parts.{live_status, running_last, with_lines}
-use Rattle.gp_machine.proofs.Acts.{Cases, acts_all}
-use Rattle.gp_machine.proofs.Steps.{step_whole, behind_parts, behind_from, active_last, none_active}
+use Rattle.gp_machine.specs.State.{Code, State, nobody, goroutine, worker, is_live, is_behind}
+use Rattle.gp_machine.specs.May.{May, is_recorded}
+use Rattle.gp_machine.specs.Effect.{woken_at, passes, passed, bears, child_of, acts, after, unmarked}
+use Rattle.gp_machine.specs.Frozen.{row, rows_from, inserted}
+use Rattle.gp_machine.proofs.Places.{changed, pushed}
+use Rattle.gp_machine.proofs.Whole.{IsWhole}
+use Rattle.gp_machine.proofs.Parts.{live_status, running_last}
+use Rattle.gp_machine.proofs.Acts.{acts_all}
 
 -- two goroutines stand at the same place
 pub record SamePlace (x y : Goroutine) : Type 0 where

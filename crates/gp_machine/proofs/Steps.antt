@@ -1,24 +1,20 @@
 -- Each entry keeps a state whole.
-use Rattle.std.proofs.Common.{◌≡◌, ◌≢◌, ◌⊎◌, ℕ, ◌+◌, ◌<◌, ◌≤◌, Bool, true, false, not, ◌&&◌, ◌||◌, ◌==◌, cond, List, [], ◌∷◌, ◌++◌, length, get_or, set, count_by, sum_by, Some, None, refl, sym, ap, ◌∙◌, subst, inl, inr, arith, zero, suc, true≢false, if◌then◌else◌, nat_lt}
-use Rattle.std.proofs.lemmas.Bool.{and_parts, and_left, and_from, or_cases, lt-ltb, ltb-true, eqb-true}
+use Rattle.std.proofs.Common.{◌≡◌, ◌⊎◌, ℕ, ◌<◌, ◌≤◌, Bool, true, false, ◌==◌, length, get_or, set, Some, refl, sym, ◌∙◌, subst, inl, inr, arith, true≢false, if◌then◌else◌, nat_lt}
+use Rattle.std.proofs.lemmas.Bool.{and_parts, and_from, or_cases, lt-ltb, ltb-true, eqb-true}
 use Rattle.gp_isa.specs.Trace.{Instruction, Local, Labels, Send, Recv, Lock, Unlock, Spawn}
-use Rattle.gp_stack.specs.Goroutine.{labels_of}
-use Rattle.gp_sync.specs.Operations.{send, recv, lock, unlock, empty_channel, free_mutex}
+use Rattle.gp_sync.specs.Operations.{send, recv, lock, unlock}
 use Rattle.gp_machine.specs.declared.entry.Entry.{Entry}
 use Rattle.gp_machine.specs.declared.entry.Entry.TheVariants.{Start, Run, Op, Tick, Park, Open, Refuse, Record, Close}
 use Rattle.gp_machine.specs.declared.goroutine.Goroutine.{Goroutine}
-use Rattle.gp_machine.specs.declared.goroutine.Status.{Status}
-use Rattle.gp_machine.specs.declared.goroutine.Status.TheVariants.{Runnable, Running, Blocked, Faulted, Dead}
-use Rattle.gp_machine.specs.declared.goroutine.Worker.{Worker}
+use Rattle.gp_machine.specs.declared.goroutine.Status.TheVariants.{Runnable, Running, Faulted}
 use Rattle.gp_machine.specs.declared.settings.Settings.{Settings}
-use Rattle.gp_machine.specs.State.{Code, State, nobody, resting, goroutine, worker, channel, mutex, is_running, is_dead, is_live, is_behind, points_of, births, running, first}
+use Rattle.gp_machine.specs.State.{Code, State, nobody, resting, goroutine, worker, channel, mutex, is_running, is_live, is_behind, births}
 use Rattle.gp_machine.specs.Due.{asked, next_instruction}
-use Rattle.gp_machine.specs.May.{May, MayStart, MayOpen, MayRecord, MayClose, is_recorded}
-use Rattle.gp_machine.specs.Effect.{turned, recorded, newborn, started, left, ticked, with_goroutine, with_worker, starts, leaves, passes, faults, bears, operates, spawns, waiter, acts, after}
-use Rattle.gp_machine.specs.Run.{AreLegal, IsLegal, after_all, last, at}
+use Rattle.gp_machine.specs.May.{May, MayOpen, MayClose, is_recorded}
+use Rattle.gp_machine.specs.Effect.{turned, recorded, started, left, ticked, with_goroutine, starts, passes, faults, bears, operates, waiter, after}
 use Rattle.gp_machine.specs.Waiting.{places_of}
-use Rattle.gp_machine.proofs.Places.{changed, replaced, replaced_within, none_counted}
-use Rattle.gp_machine.proofs.Whole.{seats, Behind, Fits, Whole, IsWhole, some_same, Running-same, live_within, unloads, keeps_running, keeps_standing, frees, gains}
+use Rattle.gp_machine.proofs.Places.{changed, replaced_within, none_counted}
+use Rattle.gp_machine.proofs.Whole.{seats, Behind, Fits, Whole, IsWhole, some_same, live_within, keeps_running, frees, gains}
 use Rattle.gp_machine.proofs.Parts.{live_status, running_last, off, passes_whole, resumes_whole, meets_whole}
 use Rattle.gp_machine.proofs.Lines.{send_moves, recv_moves, lock_moves, unlock_moves}
 

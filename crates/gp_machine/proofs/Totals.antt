@@ -1,24 +1,20 @@
 -- The laws on the numbers of legal journals.
-use Rattle.std.proofs.Common.{◌≡◌, ◌⊎◌, ℕ, ◌+◌, ◌*◌, ◌<◌, ◌≤◌, Bool, true, false, List, [], ◌∷◌, ◌++◌, length, get_or, take, drop, refl, sym, ap, ◌∙◌, subst, inl, inr, arith, zero, suc}
+use Rattle.std.proofs.Common.{◌≡◌, ℕ, ◌+◌, ◌≤◌, List, [], ◌∷◌, length, take, refl, sym, subst, arith}
 use Rattle.gp_machine.specs.declared.entry.Entry.{Entry}
-use Rattle.gp_machine.specs.declared.entry.Entry.TheVariants.{Refuse}
 use Rattle.gp_machine.specs.declared.goroutine.Status.TheVariants.{Blocked}
 use Rattle.gp_machine.specs.declared.settings.Settings.{Settings}
-use Rattle.gp_machine.specs.Settings.{AreInRange, quantum}
-use Rattle.gp_machine.specs.State.{Code, State, goroutine, worker, births, first, is_live}
-use Rattle.gp_machine.specs.Due.{IsComplete}
+use Rattle.gp_machine.specs.Settings.{AreInRange}
+use Rattle.gp_machine.specs.State.{Code, State, goroutine, first}
 use Rattle.gp_machine.specs.Effect.{after}
-use Rattle.gp_machine.specs.May.{May}
 use Rattle.gp_machine.specs.Run.{AreLegal, IsLegal, after_all, last, at}
-use Rattle.gp_machine.specs.Waiting.{places_of}
-use Rattle.gp_machine.specs.Numbers.{PrefixesAreLegal, EntriesAreCounted, Grows, BornInOrder, WaitsOnce, EachWaitsOnce, KeepsNumbers, NumbersHold, most_entries, EntriesAreBounded, RefuseLeavesAll, EndsOneWay, RunsEndOneWay}
-use Rattle.gp_machine.proofs.Whole.{seats, Whole, IsWhole, live_within}
+use Rattle.gp_machine.specs.Numbers.{PrefixesAreLegal, EntriesAreCounted, Grows, BornInOrder, EachWaitsOnce, NumbersHold, EntriesAreBounded, RefuseLeavesAll, RunsEndOneWay}
+use Rattle.gp_machine.proofs.Whole.{seats, IsWhole, live_within}
 use Rattle.gp_machine.proofs.Parts.{blocked_by}
 use Rattle.gp_machine.proofs.Steps.{step_whole}
 use Rattle.gp_machine.proofs.Law.{first_whole, all_whole, prefix_legal, front_legal, rest_legal, after_all-append}
-use Rattle.gp_machine.proofs.Counting.{Numbered, IsNumbered, step_numbered, first_numbered}
+use Rattle.gp_machine.proofs.Counting.{IsNumbered, step_numbered, first_numbered}
 use Rattle.gp_machine.proofs.Fates.{Fates, step_fates, first_fates, ends_one_way, grows}
-use Rattle.gp_machine.proofs.Bound.{Bounded, step_bounded, first_bounded, owed, held}
+use Rattle.gp_machine.proofs.Bound.{Bounded, step_bounded, first_bounded}
 
 pub prefixes_are_legal : PrefixesAreLegal
 prefixes_are_legal code settings journal k legal = prefix_legal code settings (first code settings) k journal legal

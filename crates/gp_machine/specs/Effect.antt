@@ -1,5 +1,5 @@
 -- The effect of each entry. What an entry doesn't name stays.
-use Rattle.std.specs.Prelude.{◌≡◌, ◌+◌, ◌%◌, ℕ, Bool, true, false, not, ◌&&◌, ◌==◌, List, [], ◌∷◌, ◌++◌, set, drop, filter, if◌then◌else◌, nat_lt, Some, None}
+use Rattle.std.specs.Prelude.{◌+◌, ◌%◌, ℕ, Bool, true, false, not, ◌&&◌, ◌==◌, [], ◌∷◌, ◌++◌, set, drop, filter, if◌then◌else◌, nat_lt, Some, None}
 use Rattle.gp_isa.specs.Trace.{Instruction, Local, Labels, Send, Recv, Lock, Unlock, Spawn}
 use Rattle.gp_stack.specs.Goroutine.{is_ended, labels_of}
 use Rattle.gp_sync.specs.declared.effect.Effect.{Effect}

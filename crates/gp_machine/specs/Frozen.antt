@@ -1,9 +1,9 @@
 -- The rows of a goroutine profile: what a profile has to show, and what the Record entries take.
-use Rattle.std.specs.Prelude.{ℕ, suc, Bool, true, false, List, [], ◌∷◌, ◌++◌, take, if◌then◌else◌, nat_le}
+use Rattle.std.specs.Prelude.{◌≡◌, refl, ℕ, suc, Bool, List, [], ◌∷◌, take, if◌then◌else◌, nat_le}
 use Rattle.gp_stack.specs.declared.record.Record.{Record as Row}
 use Rattle.gp_stack.specs.Goroutine.{stack_of, labels_of, frame_limit}
 use Rattle.gp_machine.specs.declared.entry.Entry.{Entry}
-use Rattle.gp_machine.specs.declared.entry.Entry.TheVariants.{Start, Run, Op, Tick, Park, Open, Refuse, Record, Close}
+use Rattle.gp_machine.specs.declared.entry.Entry.TheVariants.{Record, Close}
 use Rattle.gp_machine.specs.declared.goroutine.Goroutine.{Goroutine}
 use Rattle.gp_machine.specs.declared.settings.Settings.{Settings}
 use Rattle.gp_machine.specs.State.{Code, State, goroutine, points_of, is_live}
@@ -41,3 +41,10 @@ inserted new (r ∷ rows) = if nat_le new.g r.g then new ∷ r ∷ rows else r �
 abbrev pub sorted : List Row → List Row
 sorted [] = []
 sorted (r ∷ rows) = inserted r (sorted rows)
+
+-- An example: rows that were taken in the order 2, 0, 1 are sorted by number.
+abbrev bare_row : ℕ → Row
+bare_row g = record { g = g; stack = []; set = 0 }
+
+sorted_rows : sorted (bare_row 2 ∷ bare_row 0 ∷ bare_row 1 ∷ []) ≡ bare_row 0 ∷ bare_row 1 ∷ bare_row 2 ∷ []
+sorted_rows = refl

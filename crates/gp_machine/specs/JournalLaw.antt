@@ -1,11 +1,11 @@
 -- The journal law: what epochs say, and what stands still while a profile is active.
-use Rattle.std.specs.Prelude.{◌≡◌, ◌⊎◌, ◌+◌, ◌<◌, ◌≤◌, ℕ, Bool, true, false, List, [], ◌∷◌, ◌++◌}
+use Rattle.std.specs.Prelude.{◌≡◌, ◌⊎◌, ◌+◌, ◌<◌, ℕ, Bool, true, false, List, [], ◌∷◌, ◌++◌}
 use Rattle.gp_stack.specs.Goroutine.{stack_of}
 use Rattle.gp_machine.specs.declared.entry.Entry.{Entry}
-use Rattle.gp_machine.specs.declared.entry.Entry.TheVariants.{Start, Run, Op, Tick, Park, Open, Refuse, Record, Close}
+use Rattle.gp_machine.specs.declared.entry.Entry.TheVariants.{Open, Close}
 use Rattle.gp_machine.specs.declared.settings.Settings.{Settings}
 use Rattle.gp_machine.specs.State.{Code, State, goroutine, is_running, is_live, points_of}
-use Rattle.gp_machine.specs.Effect.{after, labels_at}
+use Rattle.gp_machine.specs.Effect.{labels_at}
 use Rattle.gp_machine.specs.Run.{IsLegal, last, at}
 use Rattle.gp_machine.specs.Frozen.{frozen, rows_taken, sorted}
 

@@ -1,9 +1,8 @@
 -- Legal journals.
-use Rattle.std.specs.Prelude.{◌≡◌, ℕ, List, [], ◌∷◌, take, fold}
-use Rattle.gp_isa.specs.declared.parts.Parts.{Parts}
+use Rattle.std.specs.Prelude.{ℕ, List, [], ◌∷◌, take}
 use Rattle.gp_machine.specs.declared.entry.Entry.{Entry}
 use Rattle.gp_machine.specs.declared.settings.Settings.{Settings}
-use Rattle.gp_machine.specs.State.{Code, State, first, code_of}
+use Rattle.gp_machine.specs.State.{Code, State, first}
 use Rattle.gp_machine.specs.Due.{IsComplete}
 use Rattle.gp_machine.specs.May.{May}
 use Rattle.gp_machine.specs.Effect.{after}

@@ -1,6 +1,5 @@
 -- The state of the machine.
-use Rattle.std.specs.Prelude.{◌≡◌, ◌<◌, ℕ, zero, suc, Bool, true, false, not, ◌&&◌, ◌||◌, ◌==◌, List, [], ◌∷◌, length, get_or, replicate, count_by, Option, Some, None, is_none, unwrap_or, slice_index_or, nat_lt, map}
-use Rattle.std.specs.List.{list_any}
+use Rattle.std.specs.Prelude.{ℕ, Bool, true, false, not, ◌&&◌, List, [], ◌∷◌, length, get_or, replicate, count_by, None, is_none, unwrap_or, slice_index_or, nat_lt, map}
 use Rattle.gp_isa.specs.declared.parts.Parts.{Parts}
 use Rattle.gp_isa.specs.declared.parts.ChannelDecl.{ChannelDecl}
 use Rattle.gp_isa.specs.Checked.{main_of}
@@ -8,7 +7,7 @@ use Rattle.gp_isa.specs.Trace.{Point, trace}
 use Rattle.gp_sync.specs.Operations.{Channel, Mutex, empty_channel, free_mutex}
 use Rattle.gp_machine.specs.declared.goroutine.Goroutine.{Goroutine}
 use Rattle.gp_machine.specs.declared.goroutine.Status.{Status}
-use Rattle.gp_machine.specs.declared.goroutine.Status.TheVariants.{Runnable, Running, Blocked, Faulted, Dead}
+use Rattle.gp_machine.specs.declared.goroutine.Status.TheVariants.{Runnable, Running, Dead}
 use Rattle.gp_machine.specs.declared.goroutine.Worker.{Worker}
 use Rattle.gp_machine.specs.declared.settings.Request.{Request}
 use Rattle.gp_machine.specs.declared.settings.Settings.{Settings}

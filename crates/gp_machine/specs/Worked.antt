@@ -1,22 +1,19 @@
 -- Small programs and journals of theirs, worked out by hand.
-use Rattle.std.specs.Prelude.{◌≡◌, ◌≤◌, ℕ, List, [], ◌∷◌, codes, length, take, ◌++◌}
-use Rattle.gp_isa.specs.declared.frame.Frame.{Frame}
+use Rattle.std.specs.Prelude.{◌≡◌, ℕ, List, [], ◌∷◌, codes, take, ◌++◌}
 use Rattle.gp_isa.specs.declared.parts.Parts.{Parts}
 use Rattle.gp_isa.specs.declared.parts.Function.{Function}
 use Rattle.gp_isa.specs.declared.parts.ChannelDecl.{ChannelDecl}
-use Rattle.gp_isa.specs.declared.parts.MutexDecl.{MutexDecl}
 use Rattle.gp_isa.specs.declared.statement.Stmt.{Stmt, roll-Stmt}
 use Rattle.gp_isa.specs.declared.statement.What.{What}
 use Rattle.gp_isa.specs.declared.statement.What.TheVariants as what
 use Rattle.gp_stack.specs.declared.record.Record.{Record as Row}
 use Rattle.gp_machine.specs.declared.entry.Entry.{Entry}
 use Rattle.gp_machine.specs.declared.entry.Entry.TheVariants.{Start, Run, Op, Tick, Park, Open, Refuse, Record, Close}
-use Rattle.gp_machine.specs.declared.entry.Ended.{Ended}
 use Rattle.gp_machine.specs.declared.entry.Ended.TheVariants.{Main, Fault, Full, Deadlock}
 use Rattle.gp_machine.specs.declared.settings.Request.{Request}
 use Rattle.gp_machine.specs.declared.settings.Request.TheVariants.{Clock, End}
 use Rattle.gp_machine.specs.declared.settings.Settings.{Settings}
-use Rattle.gp_machine.specs.State.{Code, State, code_of, births, live}
+use Rattle.gp_machine.specs.State.{Code, births, live}
 use Rattle.gp_machine.specs.Due.{ended}
 use Rattle.gp_machine.specs.Run.{IsLegal, last, at}
 use Rattle.gp_machine.specs.Frozen.{frozen, rows_taken}
