@@ -29,11 +29,11 @@ within_call line instruction = record {
 }
 
 -- A call has no point of its own, and a loop repeats its body's points.
-pub record LoopOfACall (parts : Parts) : Type 0 where
-  pub of_f : trace parts 1 ≡ point_at 1 10 Local ∷ point_at 1 11 (Send 0) ∷ []
-  pub of_main : trace parts 0 ≡ point_at 0 4 (Labels 1) ∷ within_call 10 Local ∷ within_call 11 (Send 0) ∷ within_call 10 Local ∷ within_call 11 (Send 0) ∷ []
-  pub calls : callees parts 0 ≡ 1 ∷ []
-  pub checked : first_recursive parts ≡ None
+pub record LoopOfACall (program : Parts) : Type 0 where
+  pub of_f : trace program 1 ≡ point_at 1 10 Local ∷ point_at 1 11 (Send 0) ∷ []
+  pub of_main : trace program 0 ≡ point_at 0 4 (Labels 1) ∷ within_call 10 Local ∷ within_call 11 (Send 0) ∷ within_call 10 Local ∷ within_call 11 (Send 0) ∷ []
+  pub calls : callees program 0 ≡ 1 ∷ []
+  pub checked : first_recursive program ≡ None
 
 -- func main { work 1 }; func f { call g }; func g { call f }: the first function that can call itself is f
 abbrev pub circular : Parts

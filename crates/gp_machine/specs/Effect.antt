@@ -172,7 +172,7 @@ acts code settings w g state =
     then resumes code settings w g state
     else operates code settings w g (next_instruction code state g) state
 
--- the first request that is left is served
+-- the next request is served
 abbrev pub served : State → State
 served state = record state { requests = drop 1 state.requests }
 

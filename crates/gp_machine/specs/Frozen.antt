@@ -43,8 +43,8 @@ sorted [] = []
 sorted (r ∷ rows) = inserted r (sorted rows)
 
 -- An example: rows that were taken in the order 2, 0, 1 are sorted by number.
-abbrev bare_row : ℕ → Row
-bare_row g = record { g = g; stack = []; set = 0 }
+abbrev bare : ℕ → Row
+bare g = record { g = g; stack = []; set = 0 }
 
-sorted_rows : sorted (bare_row 2 ∷ bare_row 0 ∷ bare_row 1 ∷ []) ≡ bare_row 0 ∷ bare_row 1 ∷ bare_row 2 ∷ []
+sorted_rows : sorted (bare 2 ∷ bare 0 ∷ bare 1 ∷ []) ≡ bare 0 ∷ bare 1 ∷ bare 2 ∷ []
 sorted_rows = refl

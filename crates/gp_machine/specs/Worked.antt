@@ -50,8 +50,8 @@ plain requests = record {
   picks = [];
 }
 
-abbrev one_row : ℕ → ℕ → ℕ → Row
-one_row g function line = record { g = g; stack = record { function = function; line = line } ∷ []; set = 0 }
+abbrev shown : ℕ → ℕ → ℕ → Row
+shown g function line = record { g = g; stack = record { function = function; line = line } ∷ []; set = 0 }
 
 -- A legal journal, with the last state's clock, births, live goroutines and last epoch.
 pub record Worked (code : Code) (settings : Settings) (journal : List Entry) (clock born left epoch : ℕ) : Type 0 where
@@ -83,7 +83,7 @@ smallest_journal = Open 1 1024 ∷ Record 1 0 ∷ Close 1 ∷ Start 0 0 ∷ Run 
 
 pub record SmallestProgram (code : Code) : Type 0 where
   pub journal : Worked code smallest_settings smallest_journal 1 1 0 1
-  pub rows : frozen_at code smallest_settings smallest_journal 0 ≡ one_row 0 0 2 ∷ []
+  pub rows : frozen_at code smallest_settings smallest_journal 0 ≡ shown 0 0 2 ∷ []
   -- not legal: a Close while main is unrecorded; a Run of two points; a Tick that isn't due; a Park where nothing asks
   pub no_close : EndsThere code smallest_settings (Open 1 1024 ∷ []) (Close 1)
   pub no_more_points : EndsThere code smallest_settings (take 4 smallest_journal) (Run 0 0 2)
@@ -109,8 +109,8 @@ wake_journal = wake_opening ++ Record 0 0 ∷ Start 0 0 ∷ Op 0 0 ∷ Record 1 
 
 pub record WokenBetween (code : Code) : Type 0 where
   pub journal : Worked code wake_settings wake_journal 1007 2 1 1
-  pub rows : frozen_at code wake_settings wake_journal 9 ≡ one_row 0 0 5 ∷ one_row 1 1 9 ∷ []
-  pub taken : rows_taken code wake_settings (at code wake_settings wake_journal 10) (Record 0 0 ∷ Start 0 0 ∷ Op 0 0 ∷ Record 1 1 ∷ Close 1 ∷ []) ≡ one_row 0 0 5 ∷ one_row 1 1 9 ∷ []
+  pub rows : frozen_at code wake_settings wake_journal 9 ≡ shown 0 0 5 ∷ shown 1 1 9 ∷ []
+  pub taken : rows_taken code wake_settings (at code wake_settings wake_journal 10) (Record 0 0 ∷ Start 0 0 ∷ Op 0 0 ∷ Record 1 1 ∷ Close 1 ∷ []) ≡ shown 0 0 5 ∷ shown 1 1 9 ∷ []
   -- not legal: a Start before the Record; a Run of one point too many before the quantum
   pub no_start : EndsThere code wake_settings wake_opening (Start 0 0)
   pub no_more_points : EndsThere code wake_settings (Start 0 0 ∷ Op 0 0 ∷ []) (Run 0 0 1000)
@@ -131,7 +131,7 @@ profiled_journal = Start 0 0 ∷ Op 0 0 ∷ Park 0 0 ∷ Open 1 2 ∷ Record 1 0
 pub record RoomForTwo (code : Code) : Type 0 where
   pub refused : Worked code (pair_settings 1) refused_journal 8 2 0 0
   pub profiled : Worked code (pair_settings 2) profiled_journal 8 2 0 1
-  pub rows : frozen_at code (pair_settings 2) profiled_journal 3 ≡ one_row 0 0 3 ∷ one_row 1 1 6 ∷ []
+  pub rows : frozen_at code (pair_settings 2) profiled_journal 3 ≡ shown 0 0 3 ∷ shown 1 1 6 ∷ []
   -- not legal: an Open where the room is too small, and a Refuse where it isn't; an Open while somebody runs; a
   -- Record of a goroutine born after the Open
   pub no_open : EndsThere code (pair_settings 1) (Start 0 0 ∷ Op 0 0 ∷ Park 0 0 ∷ []) (Open 1 1)
@@ -174,7 +174,7 @@ one_cell = record (plain []) { cells = 1 }
 pub record Deadlocks (code : Code) : Type 0 where
   pub journal : Worked code (plain (End ∷ [])) deadlock_journal 1 2 2 1
   pub by_deadlock : ended (last code (plain (End ∷ [])) deadlock_journal) ≡ Deadlock
-  pub rows : frozen_at code (plain (End ∷ [])) deadlock_journal 5 ≡ one_row 0 0 4 ∷ one_row 1 1 7 ∷ []
+  pub rows : frozen_at code (plain (End ∷ [])) deadlock_journal 5 ≡ shown 0 0 4 ∷ shown 1 1 7 ∷ []
   -- with one cell the same program makes a fault
   pub no_cell : Worked code one_cell (Start 0 0 ∷ Op 0 0 ∷ []) 0 1 1 0
   pub by_fault : ended (last code one_cell (Start 0 0 ∷ Op 0 0 ∷ [])) ≡ Fault 2
@@ -194,7 +194,7 @@ fault_journal = Start 0 0 ∷ Run 0 0 3 ∷ Op 0 0 ∷ Open 1 1024 ∷ Record 1 
 pub record FaultOfUnlock (code : Code) : Type 0 where
   pub journal : Worked code (plain (End ∷ [])) fault_journal 3 1 1 1
   pub by_fault : ended (last code (plain (End ∷ [])) fault_journal) ≡ Fault 1
-  pub rows : frozen_at code (plain (End ∷ [])) fault_journal 3 ≡ one_row 0 0 4 ∷ []
+  pub rows : frozen_at code (plain (End ∷ [])) fault_journal 3 ≡ shown 0 0 4 ∷ []
 
 -- func main { work 6 }, with a tick at each instruction
 abbrev pub six : Parts
@@ -225,5 +225,5 @@ pub record Ticks (code : Code) : Type 0 where
 pub record FullJournal (code : Code) : Type 0 where
   pub journal : Worked code full_settings full_journal 5000 1 1 1
   pub by_room : ended (last code full_settings full_journal) ≡ Full
-  pub rows : frozen_at code full_settings full_journal 17 ≡ one_row 0 0 2 ∷ []
+  pub rows : frozen_at code full_settings full_journal 17 ≡ shown 0 0 2 ∷ []
   pub no_start : EndsThere code full_settings (take 17 full_journal) (Start 0 0)
