@@ -13,3 +13,4 @@ pub mod Counting
 pub mod Fates
 pub mod Bound
 pub mod Totals
+pub mod Clocks

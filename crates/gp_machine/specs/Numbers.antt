@@ -10,7 +10,7 @@ use Rattle.gp_machine.specs.State.{Code, State, goroutine, worker, is_dead, is_l
 use Rattle.gp_machine.specs.Due.{IsComplete}
 use Rattle.gp_machine.specs.Effect.{after}
 use Rattle.gp_machine.specs.Run.{IsLegal, last, at}
-use Rattle.gp_machine.specs.Waiting.{places_of}
+use Rattle.gp_machine.specs.Waiting.{places_of, LinesTell}
 
 -- A legal journal's prefix is legal.
 abbrev pub PrefixesAreLegal : Type 0
@@ -37,6 +37,11 @@ pub record WaitsOnce (state : State) (g : ℕ) : Type 0 where
 
 abbrev pub EachWaitsOnce : Type 0
 EachWaitsOnce = (code : Code) (settings : Settings) (journal : List Entry) (k g : ℕ) → IsLegal code settings journal → WaitsOnce (at code settings journal k) g
+
+-- A place in a line tells the clock at which its goroutine blocked.
+abbrev pub LinesTellClocks : Type 0
+LinesTellClocks = (code : Code) (settings : Settings) (journal : List Entry) (k : ℕ) → IsLegal code settings journal →
+    let state = at code settings journal k in LinesTell state.goroutines state.channels state.mutexes
 
 -- What the numbers of a state keep.
 pub record KeepsNumbers (settings : Settings) (state : State) : Type 0 where
