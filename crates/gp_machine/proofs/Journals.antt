@@ -93,6 +93,7 @@ pair_computed =
     let code = with_traces pair pair_traces in record {
       refused = works code _ _ 8 2 0 0 refl refl refl refl refl;
       profiled = works code _ _ 8 2 0 1 refl refl refl refl refl;
+      parallel = works code _ _ 8 2 0 1 refl refl refl refl refl;
       rows = refl;
       no_open = fails code _ _ _ refl refl;
       no_refuse = fails code _ _ _ refl refl;

@@ -128,9 +128,17 @@ refused_journal = Start 0 0 ∷ Op 0 0 ∷ Park 0 0 ∷ Refuse 1 2 ∷ Start 0 1
 abbrev pub profiled_journal : List Entry
 profiled_journal = Start 0 0 ∷ Op 0 0 ∷ Park 0 0 ∷ Open 1 2 ∷ Record 1 0 ∷ Record 1 1 ∷ Close 1 ∷ Start 0 1 ∷ Run 0 1 2 ∷ Start 0 0 ∷ Run 0 0 5 ∷ []
 
+-- Two workers, each of which records what it starts; the profiler's number is 2.
+abbrev pub two_workers : Settings
+two_workers = record (plain (Clock 1 ∷ [])) { workers = 2 }
+
+abbrev pub side_by_side : List Entry
+side_by_side = Start 0 0 ∷ Op 0 0 ∷ Park 0 0 ∷ Open 1 1024 ∷ Record 0 0 ∷ Start 0 0 ∷ Record 1 1 ∷ Start 1 1 ∷ Run 1 1 2 ∷ Close 1 ∷ Run 0 0 5 ∷ []
+
 pub record RoomForTwo (code : Code) : Type 0 where
   pub refused : Worked code (pair_settings 1) refused_journal 8 2 0 0
   pub profiled : Worked code (pair_settings 2) profiled_journal 8 2 0 1
+  pub parallel : Worked code two_workers side_by_side 8 2 0 1
   pub rows : frozen_at code (pair_settings 2) profiled_journal 3 ≡ shown 0 0 3 ∷ shown 1 1 6 ∷ []
   -- not legal: an Open where the room is too small, and a Refuse where it isn't; an Open while somebody runs; a
   -- Record of a goroutine born after the Open
