@@ -12,7 +12,7 @@ use Rattle.gp_machine.specs.declared.settings.Request.{Request}
 use Rattle.gp_machine.specs.declared.settings.Request.TheVariants.{Clock, End}
 use Rattle.gp_machine.specs.declared.settings.Settings.{Settings}
 use Rattle.gp_machine.specs.Settings.{period, quantum}
-use Rattle.gp_machine.specs.State.{Code, State, goroutine, worker, points_of, is_runnable, is_running, is_dead, running}
+use Rattle.gp_machine.specs.State.{Code, State, goroutine, worker, trace_of, is_runnable, is_running, is_dead, running}
 
 -- the journal is full
 abbrev pub is_full : Settings → State → Bool
@@ -62,13 +62,13 @@ ended state =
 
 -- what is done at the next point of g
 abbrev pub next_instruction : Code → State → ℕ → Instruction
-next_instruction code state g = (next_point (points_of code (goroutine state g)) (goroutine state g).count).instruction
+next_instruction code state g = (next_point (trace_of code (goroutine state g)) (goroutine state g).count).instruction
 
 -- how many local points a Run of g on w passes: up to the next shared point or the trace's end, the next multiple
 -- of the tick's period, or the quantum
 unfoldable pub extent : Code → Settings → State → ℕ → ℕ → ℕ
 extent code settings state w g =
-    min (local_ahead (points_of code (goroutine state g)) (goroutine state g).count)
+    min (local_ahead (trace_of code (goroutine state g)) (goroutine state g).count)
     (min (period settings - (worker state w).instructions % period settings) (quantum - (worker state w).slice))
 
 -- The due entry of a worker that runs g: a Tick where one is due; else a Park where a profile is asked for, the run

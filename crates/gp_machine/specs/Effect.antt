@@ -14,7 +14,7 @@ use Rattle.gp_machine.specs.declared.goroutine.Status.TheVariants.{Runnable, Run
 use Rattle.gp_machine.specs.declared.goroutine.Worker.{Worker}
 use Rattle.gp_machine.specs.declared.settings.Settings.{Settings}
 use Rattle.gp_machine.specs.Settings.{period}
-use Rattle.gp_machine.specs.State.{Code, State, goroutine, worker, channel, mutex, points_of, births}
+use Rattle.gp_machine.specs.State.{Code, State, goroutine, worker, channel, mutex, trace_of, births}
 use Rattle.gp_machine.specs.Due.{next_instruction}
 
 -- One goroutine, changed. It has a new status, and it was recorded in a profile.
@@ -26,7 +26,7 @@ recorded epoch g = record g { epoch = epoch }
 
 -- It has passed n points, and dies where its trace ends.
 abbrev pub is_over_after : Code → ℕ → Goroutine → Bool
-is_over_after code n g = is_ended (points_of code g) (g.count + n)
+is_over_after code n g = is_ended (trace_of code g) (g.count + n)
 
 abbrev pub passed : Code → ℕ → Goroutine → Goroutine
 passed code n g = record g { count = g.count + n; status = if is_over_after code n g then Dead else g.status }
@@ -116,7 +116,7 @@ wakes g state = queued g (with_goroutine g (woken_at state.clock (goroutine stat
 
 -- a goroutine is born of g, to run a function
 abbrev pub labels_at : Code → Goroutine → ℕ
-labels_at code g = labels_of (points_of code g) g.set g.count
+labels_at code g = labels_of (trace_of code g) g.set g.count
 
 abbrev pub child_of : Code → ℕ → ℕ → State → Goroutine
 child_of code function g state = newborn function (labels_at code (goroutine state g)) state.last_epoch

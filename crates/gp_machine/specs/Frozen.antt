@@ -6,15 +6,15 @@ use Rattle.gp_machine.specs.declared.entry.Entry.{Entry}
 use Rattle.gp_machine.specs.declared.entry.Entry.TheVariants.{Record, Close}
 use Rattle.gp_machine.specs.declared.goroutine.Goroutine.{Goroutine}
 use Rattle.gp_machine.specs.declared.settings.Settings.{Settings}
-use Rattle.gp_machine.specs.State.{Code, State, goroutine, points_of, is_live}
+use Rattle.gp_machine.specs.State.{Code, State, goroutine, trace_of, is_live}
 use Rattle.gp_machine.specs.Effect.{after}
 
 -- The row of goroutine number g: its stack, cut, and its labels.
 abbrev pub row : Code → ℕ → Goroutine → Row
 row code g it = record {
   g = g;
-  stack = take frame_limit (stack_of (points_of code it) it.count);
-  set = labels_of (points_of code it) it.set it.count;
+  stack = take frame_limit (stack_of (trace_of code it) it.count);
+  set = labels_of (trace_of code it) it.set it.count;
 }
 
 -- the rows of those of a list of goroutines that pass a test, numbered from n on

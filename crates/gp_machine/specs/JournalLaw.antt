@@ -4,7 +4,7 @@ use Rattle.gp_stack.specs.Goroutine.{stack_of}
 use Rattle.gp_machine.specs.declared.entry.Entry.{Entry}
 use Rattle.gp_machine.specs.declared.entry.Entry.TheVariants.{Open, Close}
 use Rattle.gp_machine.specs.declared.settings.Settings.{Settings}
-use Rattle.gp_machine.specs.State.{Code, State, goroutine, is_running, is_live, points_of}
+use Rattle.gp_machine.specs.State.{Code, State, goroutine, is_running, is_live, trace_of}
 use Rattle.gp_machine.specs.Effect.{labels_at}
 use Rattle.gp_machine.specs.Run.{IsLegal, last, at}
 use Rattle.gp_machine.specs.Frozen.{frozen, rows_taken, sorted}
@@ -21,7 +21,7 @@ pub record KeepsEpochs (state : State) : Type 0 where
 -- g stands in one state as in another: its count is the same, and so are its stack and its labels.
 pub record StandsAs (code : Code) (opened now : State) (g : ℕ) : Type 0 where
   pub same_count : (goroutine now g).count ≡ (goroutine opened g).count
-  pub same_stack : stack_of (points_of code (goroutine now g)) (goroutine now g).count ≡ stack_of (points_of code (goroutine opened g)) (goroutine opened g).count
+  pub same_stack : stack_of (trace_of code (goroutine now g)) (goroutine now g).count ≡ stack_of (trace_of code (goroutine opened g)) (goroutine opened g).count
   pub same_labels : labels_at code (goroutine now g) ≡ labels_at code (goroutine opened g)
 
 -- whether entries have a Close

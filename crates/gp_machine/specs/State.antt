@@ -91,9 +91,9 @@ is_dead _ = false
 abbrev pub is_live : Goroutine → Bool
 is_live g = not (is_dead g.status)
 
--- the points that a goroutine passes
-abbrev pub points_of : Code → Goroutine → List Point
-points_of code g = code.points g.start
+-- the trace of a goroutine
+abbrev pub trace_of : Code → Goroutine → List Point
+trace_of code g = code.points g.start
 
 -- how many goroutines were born, are live, are running
 abbrev pub births : State → ℕ
