@@ -18,10 +18,11 @@ use Rattle.gp_machine.specs.State.{Code, State, goroutine, worker, trace_of, is_
 abbrev pub is_full : Settings → State → Bool
 is_full settings state = nat_le settings.entries state.entries
 
--- some goroutine is runnable or running
+-- a goroutine is runnable or running
 abbrev pub is_ready : Goroutine → Bool
 is_ready g = is_runnable g.status || is_running g.status
 
+-- some goroutine is
 abbrev pub some_ready : State → Bool
 some_ready state = list_any is_ready state.goroutines
 

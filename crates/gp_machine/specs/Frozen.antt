@@ -33,11 +33,12 @@ rows_taken code settings state (Record actor g ∷ entries) = row code g (gorout
 rows_taken code settings state (Close epoch ∷ entries) = []
 rows_taken code settings state (entry ∷ entries) = rows_taken code settings (after code settings state entry) entries
 
--- rows sorted by number
+-- rows sorted by number, with one more in its place
 abbrev pub inserted : Row → List Row → List Row
 inserted new [] = new ∷ []
 inserted new (r ∷ rows) = if nat_le new.g r.g then new ∷ r ∷ rows else r ∷ inserted new rows
 
+-- rows, sorted by number
 abbrev pub sorted : List Row → List Row
 sorted [] = []
 sorted (r ∷ rows) = inserted r (sorted rows)

@@ -10,10 +10,11 @@ use Rattle.gp_machine.specs.State.{nobody}
 abbrev pub in_line : ℕ → List Waiter → ℕ
 in_line g line = count_by (λ (waiter : Waiter). waiter.g == g) line
 
--- in the two lines of a channel, and in that of a mutex
+-- in the two lines of a channel
 abbrev pub in_channel : ℕ → Channel → ℕ
 in_channel g channel = in_line g channel.senders + in_line g channel.receivers
 
+-- in the line of a mutex
 abbrev pub in_mutex : ℕ → Mutex → ℕ
 in_mutex g mutex = in_line g mutex.waiters
 
