@@ -1,10 +1,10 @@
 -- The header of `main`, and the LF that may stand last.
-use Rattle.std.proofs.Common.{◌≡◌, ◌≢◌, ◌⊎◌, inl, inr, ℕ, ◌+◌, ◌≤◌, ◌++◌, List, [], ◌∷◌, length, refl, sym, ap, subst, ◌∙◌, arith, append_assoc, Option, Some, None}
-use Rattle.std.specs.Prelude.{codes, MatchOption}
+use Rattle.std.proofs.Common.{◌≡◌, ◌≢◌, ◌⊎◌, inl, inr, ℕ, ◌++◌, List, [], ◌∷◌, refl, sym, ap, ◌∙◌, arith, append_assoc}
+use Rattle.std.specs.Prelude.{codes}
 use Rattle.std.specs.List.{flat_map}
 use Rattle.std.proofs.lemmas.List.Elements.{recursion_from_All, All-from_recursion}
-use Rattle.gp_top.specs.File.{IsCount, work_line, main_text, IsText, SpellsNone}
-use Rattle.gp_top.specs.Lines.{IsBody, IsWithoutLf, IsBehindHeader}
+use Rattle.gp_top.specs.File.{IsCount, work_line, main_text, SpellsNone}
+use Rattle.gp_top.specs.Lines.{IsWithoutLf, IsBehindHeader}
 
 same_last : (a b : List ℕ) (x y : ℕ) → a ++ x ∷ [] ≡ b ++ y ∷ [] → (a ≡ b) × (x ≡ y)
 same_last [] [] x y e = (refl, cc)

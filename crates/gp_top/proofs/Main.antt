@@ -1,8 +1,7 @@
 -- Parts that are `main` with counts of work: they lie in the limits, and `check` finds nothing wrong.
-use Rattle.std.proofs.Common.{◌≡◌, ◌≢◌, ◌⊎◌, ℕ, zero, suc, ◌+◌, ◌≤◌, ◌<◌, ◌++◌, List, [], ◌∷◌, length, map, refl, sym, ap, subst, ◌∙◌, arith, Option, Some, None, IsSome, true, false, lit≤}
-use Rattle.std.specs.Prelude.{codes, All, position}
+use Rattle.std.proofs.Common.{◌≡◌, ℕ, ◌+◌, ◌≤◌, ◌++◌, List, [], ◌∷◌, length, refl, sym, subst, ◌∙◌, arith, Option, Some, None, false, lit≤}
+use Rattle.std.specs.Prelude.{All, position}
 use Rattle.std.specs.List.{AllByRecursion, IsDistinct}
-use Rattle.std.specs.Str.{bytes_eq}
 use Rattle.std.proofs.lemmas.List.Elements.{All-from_recursion, All-cons, All-nil, All-same}
 use Rattle.gp_isa.specs.declared.bad.Bad.{Bad}
 use Rattle.gp_isa.specs.declared.bad.Bad.TheVariants.{NoMain, Empty, Recursion, TooLong, Memory}
@@ -16,7 +15,7 @@ use Rattle.gp_isa.specs.Statement.{Action, action_of, line_of}
 use Rattle.gp_isa.specs.Limits.{AreNames, ArePairs, IsAction, AreStatements, AreInLimits}
 use Rattle.gp_isa.specs.Checked.{IsWork, AreWork, IsFault, is_nil, main_of, first_empty}
 use Rattle.gp_isa.proofs.Work.{first_empty-work}
-use Rattle.gp_top.specs.File.{IsCount, AreWorks, IsMain, AreParts}
+use Rattle.gp_top.specs.File.{IsCount, AreWorks, AreParts}
 use Rattle.gp_top.specs.Lines.{MainInLimits}
 
 pub works_push : (line : ℕ) (body : List Stmt) (counts : List ℕ) (s : Stmt) (n : ℕ) → AreWorks line body counts → line_of s ≡ line + length counts → action_of s ≡ Work n → AreWorks line (body ++ s ∷ []) (counts ++ n ∷ [])

@@ -1,5 +1,5 @@
 -- The first point of `main` in a program of work is a line of its first statement.
-use Rattle.std.proofs.Common.{◌≡◌, ℕ, zero, suc, ◌+◌, ◌≤◌, ◌++◌, List, [], ◌∷◌, length, refl, sym, ap, subst, ◌∙◌, arith, Option, Some, None, Result, Ok, Err}
+use Rattle.std.proofs.Common.{◌≡◌, ℕ, zero, suc, ◌≤◌, ◌++◌, List, [], ◌∷◌, length, refl, sym, ap, subst, ◌∙◌, arith, Option, Some, Result, Ok, Err}
 use Rattle.std.specs.Prelude.{IfOk, slice_get, unwrap_or}
 use Rattle.std.specs.List.{AllByRecursion}
 use Rattle.gp_isa.specs.declared.frame.Frame.{Frame}
@@ -12,9 +12,9 @@ use Rattle.gp_isa.specs.Trace.{Point, points_at, points_of_body, points_of, body
 use Rattle.gp_isa.specs.Checked.{main_of}
 use Rattle.gp_isa.specs.declared.memory.Memory.{Memory}
 use Rattle.gp_wire.specs.declared.profile.Profile.{Profile}
-use Rattle.gp_top.specs.File.{IsCount, AreWorks, IsMain, AreParts}
+use Rattle.gp_top.specs.File.{IsCount, AreWorks}
 use Rattle.gp_top.specs.Lines.{MainInLimits}
-use Rattle.gp_top.specs.Start.{Row, first_stack, start_row}
+use Rattle.gp_top.specs.Start.{first_stack, start_row}
 use Rattle.gp_top.specs.Expected.{one_sample, IsProfileOf}
 use Rattle.gp_top.proofs.Main.{has_main}
 

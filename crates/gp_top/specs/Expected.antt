@@ -1,5 +1,5 @@
 -- The goroutine profile of one row, as `profile.proto` has it.
-use Rattle.std.specs.Prelude.{◌≡◌, ℕ, not, List, [], ◌∷◌, filter, Option, Some, None, slice_get, unwrap_or, position, codes, pos}
+use Rattle.std.specs.Prelude.{◌≡◌, ℕ, not, List, [], ◌∷◌, filter, Some, slice_get, unwrap_or, position, codes, pos}
 use Rattle.std.specs.Str.{bytes_eq}
 use Rattle.gp_isa.specs.declared.frame.Frame.{Frame}
 use Rattle.gp_isa.specs.declared.parts.Parts.{Parts}

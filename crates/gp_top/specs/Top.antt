@@ -1,5 +1,5 @@
 -- What the top call promises, in the words of its clauses.
-use Rattle.std.specs.Prelude.{◌≡◌, ◌<◌, ◌≤◌, ◌⊎◌, ℕ, List, length, Option, IfSome, codes}
+use Rattle.std.specs.Prelude.{◌≡◌, ◌<◌, ◌⊎◌, ℕ, List, length, Option, IfSome, codes}
 use Rattle.gp_io.specs.Outside.{File, Puts}
 use Rattle.gp_isa.specs.declared.parts.Parts.{Parts}
 use Rattle.gp_wire.specs.declared.profile.Profile.{Profile}

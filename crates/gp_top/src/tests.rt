@@ -59,74 +59,42 @@ fn the_smallest_program_gives_its_profile(rt: HostRuntime) -> Result<(), Fail> {
     Ok(())
 }
 
+// The instant, the file, the numbers of the read and of the put that fail (0: none), and the status.
+const CASES: [(&str, &str, u64, u64, u8); 13] = [
+    ("0", "func main {\nwork 1\n}", 0, 0, status::DONE),
+    (
+        "0",
+        "func main {\nwork 4294967295\nwork 7\n}\n",
+        0,
+        2,
+        status::DONE,
+    ),
+    ("1", "func main {\nwork 1\n}\n", 0, 0, status::USAGE),
+    ("00", "func main {\nwork 1\n}\n", 0, 0, status::USAGE),
+    ("0", "func main {\nwork 0\n}\n", 0, 0, status::REFUSED),
+    ("0", "func main {\nwork 01\n}\n", 0, 0, status::REFUSED),
+    (
+        "0",
+        "func main {\nwork 4294967296\n}\n",
+        0,
+        0,
+        status::REFUSED,
+    ),
+    ("0", "func main {\nwork 1\n}\n\n", 0, 0, status::REFUSED),
+    ("0", "func main {\n}\n", 0, 0, status::REFUSED),
+    ("0", "func other {\nwork 1\n}\n", 0, 0, status::REFUSED),
+    ("0", "", 0, 0, status::REFUSED),
+    ("0", "func main {\nwork 1\n}\n", 1, 0, status::READ_FAULT),
+    ("0", "func main {\nwork 1\n}\n", 0, 1, status::PUT_FAULT),
+];
+
 #[test]
 fn each_status_has_its_cause(rt: HostRuntime) -> Result<(), Fail> {
-    let later: [&str; 4] = ["sim", "a.gp", "--at", "1"];
-    let option: [&str; 4] = ["sim", "-a.gp", "--at", "0"];
-    let zeros: [&str; 4] = ["sim", "a.gp", "--at", "00"];
-    for (words, text, reads, puts, status) in [
-        (
-            &WORDS,
-            b"func main {\nwork 1\n}".as_slice(),
-            [].as_slice(),
-            [].as_slice(),
-            status::DONE,
-        ),
-        (
-            &WORDS,
-            b"func main {\nwork 4294967295\nwork 7\n}\n".as_slice(),
-            &[],
-            &[2],
-            status::DONE,
-        ),
-        (&later, SMALLEST, &[], &[], status::USAGE),
-        (&option, SMALLEST, &[], &[], status::USAGE),
-        (&zeros, SMALLEST, &[], &[], status::USAGE),
-        (
-            &WORDS,
-            b"func main {\nwork 0\n}\n".as_slice(),
-            &[],
-            &[],
-            status::REFUSED,
-        ),
-        (
-            &WORDS,
-            b"func main {\nwork 01\n}\n".as_slice(),
-            &[],
-            &[],
-            status::REFUSED,
-        ),
-        (
-            &WORDS,
-            b"func main {\nwork 4294967296\n}\n".as_slice(),
-            &[],
-            &[],
-            status::REFUSED,
-        ),
-        (
-            &WORDS,
-            b"func main {\nwork 1\n}\n\n".as_slice(),
-            &[],
-            &[],
-            status::REFUSED,
-        ),
-        (
-            &WORDS,
-            b"func main {\n}\n".as_slice(),
-            &[],
-            &[],
-            status::REFUSED,
-        ),
-        (&WORDS, b"".as_slice(), &[], &[], status::REFUSED),
-        (&WORDS, SMALLEST, &[1], &[], status::READ_FAULT),
-        (&WORDS, SMALLEST, &[], &[1], status::PUT_FAULT),
-    ] {
-        let (found, store) = run(rt.alloc(), words, text, reads, puts)?;
-        assert_eq!(rt; found, status, "at {text:?}");
-        assert_eq!(rt;
-            store.files().len(),
-            if status == status::DONE { 1 } else { 0 }
-        );
+    for (instant, text, read, put, status) in CASES {
+        let words = ["sim", "a.gp", "--at", instant];
+        let (found, store) = run(rt.alloc(), &words, text.as_bytes(), &[read], &[put])?;
+        assert_eq!(rt; found, status, "at {instant} {text}");
+        assert_eq!(rt; store.files().is_empty(), status != status::DONE);
     }
     Ok(())
 }

@@ -1,4 +1,4 @@
-use Rattle.std.proofs.Common.{◌≡◌, ◌≤◌, length, subst, sym}
+use Rattle.std.proofs.Common.{◌≡◌}
 use Rattle.gp_top.specs.Expected.{string_table}
 use Rattle.gp_top.proofs.Table.{grown, table_few}
 use Rattle.gp_top.proofs.profile.strings.Goals as goal
