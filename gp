@@ -3,8 +3,8 @@
 #
 # A copy of the program stands in out/ beside this script, with a checksum of all that it was made from. Where the
 # checksum is no longer that of the sources, the program is proved and built anew, in a folder of its own, so that neither
-# a running gate nor an edit meanwhile comes in between. GP_GATE=passed says that `rt ci` has just passed on these very
-# sources, so that the program which it left is taken (.ci/run says so).
+# a running gate nor an edit meanwhile comes in between. With GP_GATE=passed the program that `rt ci` left is run as it is,
+# and nothing is kept: .ci/run says so, right after the gate.
 set -u
 top=$(dirname -- "$(readlink -f -- "${BASH_SOURCE[0]}")")
 kept=$top/out
@@ -36,13 +36,13 @@ crates_of() {
 # Runs a command of the kit, and shows what it said where the program doesn't come of it.
 quietly() { "$@" >>"$room/log" 2>&1 </dev/null; }
 
-# Proves and builds in $room/repo: what an earlier `rt ci` passed is taken from the kit by its checksums, where one left a
-# program here; else each crate is proved once.
+# Proves and builds in $room/repo. Where a gate left a program here, rt ci is asked first, for a while: what it passed of
+# the very same sources it takes from the kit by checksums, and runs their tests again. Else each crate is proved once.
 build() {
   local names count at=0 name
   if [ -e "$top/crates/gp_prog/out/gp_prog.by-rattle" ]; then
-    tell "taking what rt ci proved of these sources; this is done once"
-    quietly rt ci && return
+    tell "asking rt ci for what it proved of these sources; this is done once"
+    quietly timeout 240 rt ci && return
   fi
   names=$(crates_of "$room/repo")
   count=$(wc -w <<<"$names")
@@ -70,10 +70,6 @@ prepare() {
   local sum=$1
   room=$(mktemp -d) || stop "no temporary folder"
   trap 'rm -rf -- "$room"' EXIT
-  if [ "${GP_GATE:-}" = passed ] && [ -e "$top/crates/gp_prog/out/gp_prog" ]; then
-    take "$top/crates/gp_prog/out/gp_prog" "$sum"
-    return
-  fi
   mkdir -- "$room/repo" "$room/repo/.git" || stop "no temporary folder"
   (cd -- "$top" && tar cf - --exclude=out crates crates.txt HANDLES) | tar xf - -C "$room/repo" || stop "cannot copy the sources"
   sum=$(sum_of "$room/repo") || stop "cannot read the sources"
@@ -85,6 +81,9 @@ prepare() {
   take "$room/repo/crates/gp_prog/out/gp_prog" "$sum"
 }
 
+if [ "${GP_GATE:-}" = passed ] && [ -x "$top/crates/gp_prog/out/gp_prog" ]; then
+  exec "$top/crates/gp_prog/out/gp_prog" "$@"
+fi
 command -v rt >/dev/null || stop "the Rattle kit's command rt isn't there"
 sum=$(sum_of "$top") || stop "cannot read the sources"
 if [ ! -e "$kept/gp" ] || [ "$(cat -- "$kept/gp.sum" 2>/dev/null)" != "$sum" ]; then

@@ -45,9 +45,7 @@ decoded() {
 install_tools
 has_go=no
 has_protoc=no
-if go tool pprof -h >/dev/null 2>&1 || [ $? = 2 ]; then
-  command -v go >/dev/null && has_go=yes
-fi
+command -v go >/dev/null && go tool -n pprof >/dev/null 2>&1 && has_go=yes
 command -v protoc >/dev/null && has_protoc=yes
 [ "$has_go" = yes ] || echo "skipped: no go"
 [ "$has_protoc" = yes ] || echo "skipped: no protoc"
@@ -63,7 +61,7 @@ cat >wanted.hex <<'END'
 END
 [ "$(od -An -v -tx1 goroutine.1.pb | tr -d ' \n')" = "$(tr -d '\n' <wanted.hex)" ] || fail "goroutine.1.pb of a.gp has other bytes"
 raw goroutine.1.pb '^ *1: 1 *$'
-raw goroutine.1.pb '^ *1: 0x0 M=1 main a\.gp:2 '
+raw goroutine.1.pb '^ *1: 0x0 M=1 main a\.gp:2(:0)? '
 decoded goroutine.1.pb '^1 \{ 1: 1 2: 2 \} '
 decoded goroutine.1.pb ' 4 \{ 1: 1 4 \{ 1: 1 2: 2 \} \} '
 [ "$(ls)" = "$(printf 'a.gp\ngoroutine.1.pb\nwanted.hex')" ] || fail "other files lie in the folder: $(ls | tr '\n' ' ')"
@@ -84,7 +82,7 @@ frames() {
   local file=$1 line
   shift
   status 0 sim "$file" --at 0
-  for line in "$@"; do raw goroutine.1.pb " $line s=[0-9]+\$"; done
+  for line in "$@"; do raw goroutine.1.pb " $line(:0)? s=[0-9]+\$"; done
   rm -f goroutine.1.pb
 }
 seen=0

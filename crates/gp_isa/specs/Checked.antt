@@ -37,8 +37,8 @@ pub record IsChecked (parts : Parts) : Type 0 where
   pub has_main : IsSome (main_of parts)
   pub none_empty : first_empty parts ≡ None
 
--- Why parts are no program: main comes first, and nothing is said of want of memory. Of the other causes
--- none comes in programs of `work` alone.
+-- Why parts are no program: main comes first, and nothing is said of want of memory. The other causes aren't looked for
+-- yet: work calls nothing, and how long a trace is isn't tested.
 abbrev pub IsFault : Parts → Bad → Type 0
 IsFault parts NoMain = main_of parts ≡ None
 IsFault parts (Empty f) = IsSome (main_of parts) × (first_empty parts ≡ Some f)

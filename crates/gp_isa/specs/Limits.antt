@@ -42,7 +42,7 @@ IsAction parts Within (Recv c) = c < length parts.channels
 IsAction parts Within (Lock m) = m < length parts.mutexes
 IsAction parts Within (Unlock m) = m < length parts.mutexes
 IsAction parts Within (Spawn f) = f < length parts.functions
-IsAction parts Within (Labels s) = s ≤ length parts.labels
+IsAction parts Within (Labels s) = (1 ≤ s) × (s ≤ length parts.labels)
 
 -- the statements of a body in which loops stand at most `deep` inside each other
 abbrev pub AreStatements : Parts → ℕ → List Stmt → Type 0

@@ -1,7 +1,7 @@
 //! Programs of the goroutine machine: what a program file declares, and the check that makes a program of it.
 //!
-//! A file declares functions, channels, mutexes and label sets (`Parts`), each named in other statements by its
-//! place in its list. Statements are a tree: a loop holds statements, at most eight loops deep. `check` takes
+//! A file declares functions, channels, mutexes and label sets (`Parts`), each named in statements by its
+//! place in its list, label sets counted from 1. Statements are a tree: a loop holds statements, at most eight loops deep. `check` takes
 //! parts that lie in their limits and gives a `Program`: the function `main` is there, and no function and no
 //! loop is empty. So far it takes programs whose statements all are `work`.
 //!

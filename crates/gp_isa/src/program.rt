@@ -65,6 +65,7 @@ impl Program {
         ensures limits { AreInLimits self.now }
         ensures checked { IsChecked self.now }
     {
+        // (it has no effect, but brings the invariant, which the clauses tell)
         let _ = &self.parts;
         &self.parts
     }

@@ -4,16 +4,17 @@ use Rattle.std.specs.Prelude.{IfSome, codes}
 use Rattle.std.specs.List.{AllByRecursion, flat_map}
 use Rattle.std.specs.Fmt.{decimal}
 use Rattle.std.proofs.lemmas.Fmt.{length-decimal-le}
+use Rattle.std.proofs.lemmas.List.{drop_all}
 use Rattle.std.proofs.lemmas.List.Elements.{recursion_from_All}
 use Rattle.gp_isa.specs.declared.parts.Parts.{Parts}
 use Rattle.gp_top.specs.File.{IsCount, work_line, main_text, IsText, Spells}
-use Rattle.gp_top.specs.Lines.{MainInLimits}
+use Rattle.gp_top.specs.File.{MainInLimits}
 use Rattle.gp_io.specs.declared.whole.ReadError.{ReadError}
 use Rattle.gp_io.specs.declared.whole.ReadError.TheVariants as read
 use Rattle.gp_top.specs.declared.load.LoadError.{LoadError}
 use Rattle.gp_top.specs.declared.load.LoadError.TheVariants as load
 use Rattle.gp_top.specs.Errors.{load_of_read}
-use Rattle.gp_top.specs.Top.{IsAccepted, IsRefused}
+use Rattle.gp_top.specs.Top.{IsAccepted, IsRefused, IsReadWhole}
 
 too_long : (held : Option (List ℕ)) → IfSome held (λ all. 1048576 < length all) → IsRefused held
 too_long None h = tt
@@ -59,3 +60,10 @@ pub main_in_limits : (held : Option (List ℕ)) (parts : Parts) → IsAccepted h
 main_in_limits held parts accepted =
     let s = accepted.spelled in
     record { counts = s.0; some = s.1.some; few = s.1.few; each = recursion_from_All IsCount s.0 s.1.each; parts_are = s.2 }
+
+-- a source that was read to its end within the limit
+pub whole_read : (held left : Option (List ℕ)) (bytes : List ℕ) → IfSome held (λ all. bytes ≡ all) → length bytes ≤ 1048576 → IfSome held (λ _. left ≡ Some []) → IsReadWhole held left
+whole_read None left bytes all few none = tt
+whole_read (Some all) left bytes same few none =
+    let short_enough : length all ≤ 1048577 = omega (arith, few, ap length same) in
+    none ∙ ap (λ (l : List ℕ). Some l) (sym (drop_all 1048577 all short_enough))

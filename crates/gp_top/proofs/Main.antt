@@ -16,7 +16,7 @@ use Rattle.gp_isa.specs.Limits.{AreNames, ArePairs, IsAction, AreStatements, Are
 use Rattle.gp_isa.specs.Checked.{IsWork, AreWork, IsFault, is_nil, main_of, first_empty}
 use Rattle.gp_isa.proofs.Work.{first_empty-work}
 use Rattle.gp_top.specs.File.{IsCount, AreWorks, AreParts}
-use Rattle.gp_top.specs.Lines.{MainInLimits}
+use Rattle.gp_top.specs.File.{MainInLimits}
 
 pub works_push : (line : ℕ) (body : List Stmt) (counts : List ℕ) (s : Stmt) (n : ℕ) → AreWorks line body counts → line_of s ≡ line + length counts → action_of s ≡ Work n → AreWorks line (body ++ s ∷ []) (counts ++ n ∷ [])
 works_push line [] [] s n w l a = (l ∙ omega arith, a, tt)

@@ -7,8 +7,20 @@ use Rattle.std.proofs.lemmas.Fmt.{decimal_injective}
 use Rattle.std.proofs.lemmas.List.{append-nil}
 use Rattle.std.proofs.lemmas.List.Concat.{flat_map-append}
 use Rattle.gp_top.specs.File.{IsCount, work_line}
-use Rattle.gp_top.specs.Lines.{IsBody, IsRest, IsNext, Reading}
+use Rattle.gp_top.specs.Lines.{IsBody, IsNext}
 use Rattle.gp_top.proofs.Cuts.{line_of_next, same_line}
+
+-- The bytes are lines of work with these counts and the brace; the lines may be none or many.
+pub record IsRest (bytes counts : List ℕ) : Type 0 where
+  pub each : AllByRecursion IsCount counts
+  pub text : bytes ≡ flat_map work_line counts ++ codes "}"
+
+-- What was read, and what is left: whichever way all lines are read, they begin with those read so far.
+pub record Reading (bytes seen rest : List ℕ) : Type 0 where
+  pub text : bytes ≡ flat_map work_line seen ++ rest
+  pub each : AllByRecursion IsCount seen
+  pub few : length seen ≤ 64
+  pub only : (counts : List ℕ) → IsRest bytes counts → (more : List ℕ) × (counts ≡ seen ++ more) × IsRest rest more
 
 pub starts : (bytes : List ℕ) → Reading bytes [] bytes
 starts bytes = record { text = refl; each = tt; few = omega arith; only = λ counts rest. (counts, refl, rest) }

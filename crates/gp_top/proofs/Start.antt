@@ -1,5 +1,5 @@
 -- The first point of `main` in a program of work is a line of its first statement.
-use Rattle.std.proofs.Common.{◌≡◌, ℕ, zero, suc, ◌≤◌, ◌++◌, List, [], ◌∷◌, length, refl, sym, ap, subst, ◌∙◌, arith, Option, Some, Result, Ok, Err}
+use Rattle.std.proofs.Common.{◌≡◌, ℕ, zero, suc, ◌≤◌, ◌++◌, List, [], ◌∷◌, length, take, refl, sym, ap, subst, ◌∙◌, arith, Option, Some, Result, Ok, Err}
 use Rattle.std.specs.Prelude.{IfOk, slice_get, unwrap_or}
 use Rattle.std.specs.List.{AllByRecursion}
 use Rattle.gp_isa.specs.declared.frame.Frame.{Frame}
@@ -13,10 +13,26 @@ use Rattle.gp_isa.specs.Checked.{main_of}
 use Rattle.gp_isa.specs.declared.memory.Memory.{Memory}
 use Rattle.gp_wire.specs.declared.profile.Profile.{Profile}
 use Rattle.gp_top.specs.File.{IsCount, AreWorks}
-use Rattle.gp_top.specs.Lines.{MainInLimits}
-use Rattle.gp_top.specs.Start.{first_stack, start_row}
+use Rattle.gp_top.specs.File.{MainInLimits}
+use Rattle.gp_stack.specs.Goroutine.{next_point, stack_of, labels_of, frame_limit}
+use Rattle.gp_top.specs.Start.{main_points, start_record}
 use Rattle.gp_top.specs.Expected.{one_sample, IsProfileOf}
 use Rattle.gp_top.proofs.Main.{has_main}
+
+-- the stack of the first of some points
+abbrev first_stack : List Point → List Frame
+first_stack [] = []
+first_stack (point ∷ points) = point.stack
+
+first_is : (points : List Point) (frame : Frame) → first_stack points ≡ frame ∷ [] → take frame_limit (stack_of points 0) ≡ frame ∷ []
+unfolding stack_of next_point
+first_is [] frame e = absurd cc
+first_is (point ∷ points) frame e = rw e refl
+
+no_set : (points : List Point) → labels_of points 0 0 ≡ 0
+unfolding labels_of
+no_set [] = refl
+no_set (point ∷ points) = refl
 
 abbrev frame_at : ℕ → ℕ → Frame
 frame_at f line = record { function = f; line = line }
@@ -51,7 +67,7 @@ zero_is : (main : ℕ) (o : Option ℕ) → o ≡ Some 0 → o ≡ Some main →
 zero_is main o e h = cc
 
 start_stack : (parts : Parts) (m : MainInLimits parts) (main : ℕ) (f : Function) (first : Stmt) → main_of parts ≡ Some main → slice_get parts.functions main ≡ Some f → slice_get f.body 0 ≡ Some first
-    → (start_row parts).stack ≡ frame_at main (line_of first) ∷ []
+    → (start_record parts).stack ≡ frame_at main (line_of first) ∷ []
 unfolding trace
 start_stack parts m main f first is got begins =
     let p = m.parts_are in
@@ -61,15 +77,15 @@ start_stack parts m main f first is got begins =
     let works = subst (λ (g : Function). AreWorks 2 g.body m.counts) same p.main.body in
     let there = body_there parts main f got in
     let begins_so = λ (calls : ℕ → List Point). ap (λ (b : List Stmt). first_stack (points_of_body calls main 8 b)) there ∙ body_first calls main 2 f.body m.counts first works m.each begins in
-    ap (λ (o : Option ℕ). first_stack (trace parts (unwrap_or o 0))) is ∙ trace_first parts (length parts.functions) main (frame_at main (line_of first) ∷ []) begins_so
+    first_is (main_points parts) (frame_at main (line_of first)) (ap (λ (o : Option ℕ). first_stack (trace parts (unwrap_or o 0))) is ∙ trace_first parts (length parts.functions) main (frame_at main (line_of first) ∷ []) begins_so)
 
 pub start_is : (parts : Parts) (m : MainInLimits parts) (file : List ℕ) (main : ℕ) (f : Function) (first : Stmt) (r : Result Profile Memory) → main_of parts ≡ Some main → slice_get parts.functions main ≡ Some f → slice_get f.body 0 ≡ Some first
-    → IfOk r (λ profile. profile ≡ one_sample f file (line_of first)) → IfOk r (IsProfileOf parts file (start_row parts))
+    → IfOk r (λ profile. profile ≡ one_sample f file (line_of first)) → IfOk r (IsProfileOf parts file (start_record parts))
 start_is parts m file main f first (Err e) is got begins made = tt
 start_is parts m file main f first (Ok profile) is got begins made = record {
   frame = record { function = main; line = line_of first };
   stack = start_stack parts m main f first is got begins;
-  set = refl;
+  set = no_set (main_points parts);
   function = f;
   function_is = got;
   profile_is = made;

@@ -5,7 +5,7 @@ use Rattle.std.specs.List.{list_any}
 use Rattle.std.specs.Str.{bytes_eq}
 use Rattle.std.proofs.lemmas.List.{append-nil}
 use Rattle.std.proofs.lemmas.Slice.Eq.{bytes_eq-Decides}
-use Rattle.gp_top.specs.Lines.{with_text}
+use Rattle.gp_top.specs.Expected.{with_text}
 use Rattle.gp_top.specs.Expected.{first_seen, string_table}
 
 told : (b : Bool) → (b ≡ true) ⊎ (b ≡ false)

@@ -1,17 +1,22 @@
 -- The goroutine profile of one row, as `profile.proto` has it.
-use Rattle.std.specs.Prelude.{◌≡◌, ℕ, not, List, [], ◌∷◌, filter, Some, slice_get, unwrap_or, position, codes, pos}
+use Rattle.std.specs.Prelude.{◌≡◌, ℕ, not, List, [], ◌∷◌, ◌++◌, filter, if◌then◌else◌, Some, slice_get, unwrap_or, position, codes, pos}
+use Rattle.std.specs.List.{list_any}
 use Rattle.std.specs.Str.{bytes_eq}
 use Rattle.gp_isa.specs.declared.frame.Frame.{Frame}
 use Rattle.gp_isa.specs.declared.parts.Parts.{Parts}
 use Rattle.gp_isa.specs.declared.parts.Function.{Function}
 use Rattle.gp_wire.specs.declared.profile.Profile.{Profile}
 use Rattle.gp_wire.specs.declared.profile.ValueType.{ValueType}
-use Rattle.gp_top.specs.Start.{Row}
+use Rattle.gp_stack.specs.declared.record.Record.{Record}
 
 -- each text of a list once, where it stands first
 unfoldable pub first_seen : List (List ℕ) → List (List ℕ)
 first_seen [] = []
 first_seen (text ∷ texts) = text ∷ filter (λ other. not (bytes_eq other text)) (first_seen texts)
+
+-- the table with a text at its end, unless it is there
+abbrev pub with_text : List (List ℕ) → List ℕ → List (List ℕ)
+with_text table text = if list_any (λ other. bytes_eq other text) table then table else table ++ text ∷ []
 
 -- The string table: the empty text, and then the others in the order in which they are needed, first by the
 -- sample type and the period type, then by the function.
@@ -48,7 +53,7 @@ one_sample function file line =
     }
 
 -- The profile is that of one row whose stack is a single frame and whose label set is empty.
-pub record IsProfileOf (parts : Parts) (file : List ℕ) (row : Row) (profile : Profile) : Type 0 where
+pub record IsProfileOf (parts : Parts) (file : List ℕ) (row : Record) (profile : Profile) : Type 0 where
   pub frame : Frame
   pub stack : row.stack ≡ frame ∷ []
   pub set : row.set ≡ 0

@@ -1,6 +1,6 @@
 -- The text of a program file, so far of one function `main` whose statements are `work`.
 use Rattle.std.specs.Prelude.{◌≡◌, ◌≤◌, ◌+◌, ◌^◌, ◌<◌, ◌⊎◌, ℕ, List, [], ◌∷◌, ◌++◌, length, codes, All}
-use Rattle.std.specs.List.{flat_map}
+use Rattle.std.specs.List.{AllByRecursion, flat_map}
 use Rattle.std.specs.Fmt.{decimal}
 use Rattle.gp_isa.specs.declared.parts.Parts.{Parts}
 use Rattle.gp_isa.specs.declared.parts.Function.{Function}
@@ -50,6 +50,14 @@ pub record AreParts (parts : Parts) (counts : List ℕ) : Type 0 where
   pub channels : parts.channels ≡ []
   pub mutexes : parts.mutexes ≡ []
   pub labels : parts.labels ≡ []
+
+-- The parts are `main` with counts of work in their range, at least one and at most 64.
+pub record MainInLimits (parts : Parts) : Type 0 where
+  pub counts : List ℕ
+  pub some : 1 ≤ length counts
+  pub few : length counts ≤ 64
+  pub each : AllByRecursion IsCount counts
+  pub parts_are : AreParts parts counts
 
 -- The bytes are the text of a program with these parts.
 abbrev pub Spells : List ℕ → Parts → Type 0

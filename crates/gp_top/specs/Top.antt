@@ -1,5 +1,5 @@
 -- What the top call promises, in the words of its clauses.
-use Rattle.std.specs.Prelude.{◌≡◌, ◌<◌, ◌⊎◌, ℕ, List, length, Option, IfSome, codes}
+use Rattle.std.specs.Prelude.{◌≡◌, ◌<◌, ◌⊎◌, ℕ, List, length, drop, Option, Some, IfSome, codes}
 use Rattle.gp_io.specs.Outside.{File, Puts}
 use Rattle.gp_isa.specs.declared.parts.Parts.{Parts}
 use Rattle.gp_wire.specs.declared.profile.Profile.{Profile}
@@ -7,7 +7,7 @@ use Rattle.gp_wire.specs.Canonical.{canon}
 use Rattle.gp_top.specs.declared.status.TheConstants.{DONE, USAGE, REFUSED, READ_FAULT, PUT_FAULT, MEMORY}
 use Rattle.gp_top.specs.Words.{IsJob}
 use Rattle.gp_top.specs.File.{Spells, SpellsNone}
-use Rattle.gp_top.specs.Start.{start_row}
+use Rattle.gp_top.specs.Start.{start_record}
 use Rattle.gp_top.specs.Expected.{IsProfileOf}
 
 -- The bytes are all that the source held, where that is told.
@@ -24,10 +24,14 @@ pub record IsAccepted (held : Option (List ℕ)) (parts : Parts) : Type 0 where
 abbrev pub IsRefused : Option (List ℕ) → Type 0
 IsRefused held = IfSome held (λ all. SpellsNone all ⊎ (1048576 < length all))
 
+-- The source was read to its end, or to one byte past a mebibyte.
+abbrev pub IsReadWhole : Option (List ℕ) → Option (List ℕ) → Type 0
+IsReadWhole held left = IfSome held (λ all. left ≡ Some (drop 1048577 all))
+
 -- The store gained one file: the goroutine profile of the program at its start, in its canonical bytes.
 pub record Gains (before after : Option (List File)) (file : List ℕ) (parts : Parts) : Type 0 where
   pub profile : Profile
-  pub expected : IsProfileOf parts file (start_row parts) profile
+  pub expected : IsProfileOf parts file (start_record parts) profile
   pub put : Puts before (codes "goroutine.1.pb") (canon profile) after
 
 -- The job is done: for the file that the words name, and the program that the source held.

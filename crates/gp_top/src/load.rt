@@ -1,7 +1,6 @@
 ghost use Rattle.std.specs.Prelude.{◌≡◌, IfOk, OnOk, OnErr, IsErrOf};
 ghost use Rattle.gp_io.specs.Outside.{Rose};
-ghost use Rattle.gp_top.specs.Lines.{MainInLimits};
-ghost use Rattle.gp_top.specs.Top.{IsAccepted, IsRefused};
+ghost use Rattle.gp_top.specs.Top.{IsAccepted, IsRefused, IsReadWhole};
 
 use crate::file::FileError;
 use crate::program::read;
@@ -55,6 +54,9 @@ impl From<FileError> for LoadError {
 pub(crate) fn load<S: Source>(alloc: Global, source: &mut S) -> Result<Program, LoadError>
     ensures accepted { IfOk result (IsAccepted (S.left source.old)) }
     ensures refused { IsErrOf result LoadError.Refused → IsRefused (S.left source.old) }
+    ensures whole { OnOk result (IsReadWhole (S.left source.old) (S.left source.new)) }
+    ensures refused_whole { IsErrOf result LoadError.Refused
+        → IsReadWhole (S.left source.old) (S.left source.new) }
     ensures fault { IsErrOf result LoadError.ReadFault → Rose (S.faults source.old) (S.faults source.new) }
     ensures well { (IsErrOf result LoadError.ReadFault → ⊥) → S.faults source.new ≡ S.faults source.old }
 {

@@ -1,9 +1,9 @@
 ghost use Rattle.std.specs.Prelude.{◌≡◌, ◌≤◌, ◌∷◌, [], ◌<◌, length, position, not, pos, IfOk, IfSome, OnOk, if◌then◌else◌};
 ghost use Rattle.std.specs.List.{list_any};
 ghost use Rattle.std.specs.Str.{bytes_eq};
-ghost use Rattle.gp_top.specs.Lines.{MainInLimits, with_text};
-ghost use Rattle.gp_top.specs.Start.{start_row};
-ghost use Rattle.gp_top.specs.Expected.{string_table, number_in, goroutine_count, one_sample, IsProfileOf};
+ghost use Rattle.gp_top.specs.File.{MainInLimits};
+ghost use Rattle.gp_top.specs.Start.{start_record};
+ghost use Rattle.gp_top.specs.Expected.{with_text, string_table, number_in, goroutine_count, one_sample, IsProfileOf};
 
 use gp_isa::{Memory, Program, Sequence, Text};
 use gp_wire::{Function, Line, Location, Profile, Sample, Strings, ValueType};
@@ -131,7 +131,7 @@ fn one_goroutine(
 /// The goroutine profile of a program of work before its first entry: `main` at its first statement.
 pub(crate) fn start_profile(alloc: Global, program: &Program, file: &str) -> Result<Profile, Memory>
     requires { MainInLimits program.now }
-    ensures { IfOk result (IsProfileOf program.now file.now (start_row program.now)) }
+    ensures { IfOk result (IsProfileOf program.now file.now (start_record program.now)) }
 {
     let parts = program.parts();
     let main = parts.functions.get(program.main() as usize).unwrap();

@@ -1,7 +1,6 @@
 ghost use Rattle.std.specs.Prelude.{◌≡◌, ◌≤◌, length, IfOk, IsErrOf, All};
 ghost use Rattle.gp_isa.specs.Checked.{AreWork};
-ghost use Rattle.gp_top.specs.Lines.{MainInLimits};
-ghost use Rattle.gp_top.specs.File.{IsCount, IsMain, AreWorks, AreParts, Spells, SpellsNone};
+ghost use Rattle.gp_top.specs.File.{MainInLimits, IsCount, IsMain, AreWorks, AreParts, Spells, SpellsNone};
 
 use crate::file::{FileError, behind_header, counts};
 use gp_isa::{Bad, Function, Memory, Parts, Program, Sequence, Stmt, Stmts, Text, What, check};

@@ -1,6 +1,6 @@
 ghost use Rattle.std.specs.Prelude.{◌≡◌, OnOk, IsErrOf, codes};
 ghost use Rattle.gp_io.specs.Outside.{Rose, KeepsOthers};
-ghost use Rattle.gp_top.specs.Lines.{MainInLimits};
+ghost use Rattle.gp_top.specs.File.{MainInLimits};
 ghost use Rattle.gp_top.specs.Top.{Gains};
 
 use crate::profile::start_profile;

@@ -3,7 +3,7 @@ ghost use Rattle.gp_io.specs.Outside.{Rose, KeepsOthers};
 ghost use Rattle.gp_isa.specs.declared.parts.Parts.{Parts};
 ghost use Rattle.gp_top.specs.Words.{texts, IsJob};
 ghost use Rattle.gp_top.specs.File.{Spells};
-ghost use Rattle.gp_top.specs.Top.{IsAccepted, IsRefused, IsDone, IsStatus};
+ghost use Rattle.gp_top.specs.Top.{IsAccepted, IsRefused, IsReadWhole, IsDone, IsStatus};
 
 use crate::load::{LoadError, load};
 use crate::save::{SaveError, save};
@@ -29,15 +29,19 @@ pub fn plain_top<S: Source, K: Store, O: Sink>(
     out: &mut O,
 ) -> Outcome
     // Done: the store gained exactly the profile of the program that is all that the source held.
-    ensures done { result.status ≡ DONE → IsDone (texts words.now) (S.left source.old) (K.files store.old) (K.files store.new) }
+    ensures done { result.status ≡ DONE
+        → IsDone (texts words.now) (S.left source.old) (K.files store.old) (K.files store.new) }
 
     // Status 1: exactly where the words give no job. Then nothing was read.
     ensures usage { (result.status ≡ USAGE) ↔ ((file : List ℕ) → IsJob (texts words.now) file → ⊥) }
     ensures unread { result.status ≡ USAGE → source.new ≡ source.old }
 
-    // Status 2: exactly where the bytes are no program, or too many, since on 0 and 4 they are a program.
+    // Status 2: exactly where the bytes are no program, or too many, since on 0 and 4 they are a program. On
+    // each of the three the source was read to its end, or past the limit.
     ensures refused { result.status ≡ REFUSED → IsRefused (S.left source.old) }
     ensures accepted { result.status ≡ PUT_FAULT → (parts : Parts) × IsAccepted (S.left source.old) parts }
+    ensures whole { result.status ≢ USAGE → result.status ≢ READ_FAULT → result.status ≢ MEMORY
+        → IsReadWhole (S.left source.old) (S.left source.new) }
 
     // Status 3: only where the source's count rose. On every other status it didn't.
     ensures read_fault { result.status ≡ READ_FAULT → Rose (S.faults source.old) (S.faults source.new) }
@@ -46,7 +50,8 @@ pub fn plain_top<S: Source, K: Store, O: Sink>(
     // Status 4: only where the store's count rose. On every other status it didn't.
     ensures put_fault { result.status ≡ PUT_FAULT → Rose (K.faults store.old) (K.faults store.new) }
     ensures put_well { result.status ≢ PUT_FAULT → K.faults store.new ≡ K.faults store.old }
-    ensures others { result.status ≡ PUT_FAULT → KeepsOthers (K.files store.old) (codes "goroutine.1.pb") (K.files store.new) }
+    ensures others { result.status ≡ PUT_FAULT
+        → KeepsOthers (K.files store.old) (codes "goroutine.1.pb") (K.files store.new) }
 
     // On 1, 2, 3 and 9 nothing was put, and the sink is as before on every status.
     ensures nothing_put { result.status ≢ DONE → result.status ≢ PUT_FAULT → store.new ≡ store.old }
@@ -58,9 +63,11 @@ pub fn plain_top<S: Source, K: Store, O: Sink>(
     // With right words, a right file and no fault the job is done, unless memory runs out.
     ensures complete { (file bytes : List ℕ) (parts : Parts) → IsJob (texts words.now) file
         → S.left source.old ≡ Some bytes → Spells bytes parts
-        → (Rose (S.faults source.old) (S.faults source.new) → ⊥) → (Rose (K.faults store.old) (K.faults store.new) → ⊥)
+        → (Rose (S.faults source.old) (S.faults source.new) → ⊥)
+        → (Rose (K.faults store.old) (K.faults store.new) → ⊥)
         → (result.status ≡ DONE) ⊎ (result.status ≡ MEMORY) }
 {
+    // (it has no effect: a `&mut` that is never used has no value in the clauses)
     let _ = &*out;
     let Some(file) = file_word(words) else {
         return Outcome { status: USAGE };

@@ -1,5 +1,5 @@
 use Rattle.std.proofs.Common.{length}
-use Rattle.gp_top.specs.Lines.{Reading}
+use Rattle.gp_top.proofs.Reading.{Reading}
 use Rattle.gp_top.proofs.file.counts.Given as goal
 
 abbrev pub invariant-loop-rest : goal.invariant-loop-rest
