@@ -18,7 +18,7 @@ use Rattle.gp_machine.specs.May.{May}
 use Rattle.gp_machine.specs.Effect.{with_goroutine, passed, unmarked, blocked_at, woken_at, child_of, waiter, passes, faults, bears, meets, operates, after}
 use Rattle.gp_machine.specs.Run.{AreLegal, after_all}
 use Rattle.gp_machine.specs.Waiting.{in_line, in_channel, in_mutex, places_of, TellsClocks, LinesTell}
-use Rattle.gp_machine.specs.Numbers.{LinesTellClocks}
+use Rattle.gp_machine.specs.RunLaws.{LinesTellClocks}
 use Rattle.gp_machine.proofs.Places.{changed, pushed}
 use Rattle.gp_machine.proofs.Whole.{IsWhole, live_within}
 use Rattle.gp_machine.proofs.Parts.{live_status, not_waiting, with_lines, one_if_eq}

@@ -14,3 +14,4 @@ pub mod Fates
 pub mod Bound
 pub mod Totals
 pub mod Clocks
+pub mod OnWorkers

@@ -10,14 +10,14 @@
 //!
 //! The definitions are in `specs/`, to be read in this order: `Settings`, `State` (what the machine keeps), `Due` (when
 //! a profile is asked for, when a run is over, what is due), `May` (the condition of each entry), `Effect` (what each
-//! entry does), `Run` (legal journals), `Frozen` (the rows of a profile). `JournalLaw` and `Numbers` say the laws,
-//! `Worked` has journals worked out by hand.
+//! entry does), `Run` (legal journals), `Frozen` (the rows of a profile), `Waiting` (places in
+//! wait lists). `JournalLaw`, `RunLaws` and `NumberLaws` say the laws, `Worked` has journals worked out by hand.
 //!
 //! Promised, of every legal journal of every program (`law_journal`): while a profile is active a running goroutine has
 //! its epoch, and one that has still to be recorded stands where it stood at the Open, even where it was woken since;
 //! so the rows taken at the Record entries are, sorted, the rows of all goroutines live at the Open, each once.
-//! `law_runs` and `law_numbers` have the other laws: prefixes, births, waits, refusals, ends, and bounds on entries,
-//! clock, slices, births and epochs.
+//! `law_runs` and `law_numbers` have the other laws: prefixes, births, who runs on which worker, waits, refusals, ends,
+//! and bounds on entries, clock, slices, births and epochs.
 #![tactic(auto)]
 
 mod entry;

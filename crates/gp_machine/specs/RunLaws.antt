@@ -1,11 +1,9 @@
--- Laws on the numbers of legal journals.
-use Rattle.std.specs.Prelude.{◌≡◌, ◌⊎◌, ◌+◌, ◌*◌, ◌≤◌, ◌<◌, ℕ, true, false, List, [], ◌∷◌, ◌++◌, length, take, drop, sum_by}
+-- Laws on what goroutines do in legal journals: on which worker they run, how they are born, wait and end.
+use Rattle.std.specs.Prelude.{◌≡◌, ◌⊎◌, ◌↔◌, ◌+◌, ◌≤◌, ◌<◌, ℕ, true, false, Some, List, [], ◌∷◌, ◌++◌, take, drop}
 use Rattle.gp_machine.specs.declared.entry.Entry.{Entry}
 use Rattle.gp_machine.specs.declared.entry.Entry.TheVariants.{Refuse}
-use Rattle.gp_machine.specs.declared.goroutine.Worker.{Worker}
-use Rattle.gp_machine.specs.declared.goroutine.Status.TheVariants.{Runnable, Blocked}
+use Rattle.gp_machine.specs.declared.goroutine.Status.TheVariants.{Runnable, Running, Blocked}
 use Rattle.gp_machine.specs.declared.settings.Settings.{Settings}
-use Rattle.gp_machine.specs.Settings.{AreInRange, quantum}
 use Rattle.gp_machine.specs.State.{Code, State, goroutine, worker, is_dead, is_live, births}
 use Rattle.gp_machine.specs.Due.{IsComplete}
 use Rattle.gp_machine.specs.Effect.{after}
@@ -16,11 +14,6 @@ use Rattle.gp_machine.specs.Waiting.{places_of, LinesTell}
 abbrev pub PrefixesAreLegal : Type 0
 PrefixesAreLegal = (code : Code) (settings : Settings) (journal : List Entry) (k : ℕ) →
     IsLegal code settings journal → IsLegal code settings (take k journal)
-
--- The number of entries is the journal's length.
-abbrev pub EntriesAreCounted : Type 0
-EntriesAreCounted = (code : Code) (settings : Settings) (journal : List Entry) →
-    (last code settings journal).entries ≡ length journal
 
 -- With an entry at most one goroutine is born, under the next number, and one that was born keeps its function and
 -- the set that it inherited.
@@ -34,6 +27,12 @@ abbrev pub BornInOrder : Type 0
 BornInOrder = (code : Code) (settings : Settings) (journal : List Entry) (entry : Entry) →
     IsLegal code settings (journal ++ entry ∷ []) →
     Grows (last code settings journal) (last code settings (journal ++ entry ∷ []))
+
+-- In every state of a legal journal a goroutine is running on a worker exactly where that worker runs it.
+abbrev pub StatusesMatchWorkers : Type 0
+StatusesMatchWorkers = (code : Code) (settings : Settings) (journal : List Entry) (k w g : ℕ) → IsLegal code settings journal →
+    let state = at code settings journal k in
+    ((worker state w).runs ≡ Some g) ↔ ((goroutine state g).status ≡ Running w)
 
 -- A goroutine waits in at most one line, and only while it is blocked.
 pub record WaitsOnce (state : State) (g : ℕ) : Type 0 where
@@ -50,35 +49,12 @@ abbrev pub LinesTellClocks : Type 0
 LinesTellClocks = (code : Code) (settings : Settings) (journal : List Entry) (k : ℕ) → IsLegal code settings journal →
     let state = at code settings journal k in LinesTell state.goroutines state.channels state.mutexes
 
--- What the numbers of a state keep.
-pub record KeepsNumbers (settings : Settings) (state : State) : Type 0 where
-  pub clock_is_sum : state.clock ≡ sum_by (λ (w : Worker). w.instructions) state.workers
-  pub clock_bound : state.clock ≤ quantum * state.entries
-  pub slice_bound : (w : ℕ) → (worker state w).slice ≤ quantum
-  pub births_bound : births state ≤ settings.cells
-  pub live_bound : (g : ℕ) → is_live (goroutine state g) ≡ true → g < settings.cells
-  pub epoch_bound : state.last_epoch ≤ 8
-
--- That holds at every step of a legal journal.
-abbrev pub NumbersHold : Type 0
-NumbersHold = (code : Code) (settings : Settings) (journal : List Entry) (k : ℕ) → AreInRange settings →
-    IsLegal code settings journal → KeepsNumbers settings (at code settings journal k)
-
--- the most entries of a legal journal
-abbrev pub most_entries : Settings → ℕ
-most_entries settings = settings.entries + 8 * (settings.cells + 2) + 2 * settings.workers + 2
-
--- A legal journal has no more.
-abbrev pub EntriesAreBounded : Type 0
-EntriesAreBounded = (code : Code) (settings : Settings) (journal : List Entry) → AreInRange settings →
-    IsLegal code settings journal → length journal ≤ most_entries settings
-
 -- A Refuse leaves the state as it was, but for the served request and the number of entries.
 abbrev pub RefuseLeavesAll : Type 0
 RefuseLeavesAll = (code : Code) (settings : Settings) (state : State) (room n : ℕ) →
     after code settings state (Refuse room n) ≡ record state { requests = drop 1 state.requests; entries = state.entries + 1 }
 
--- How a complete run ended: the four ways exclude each other.
+-- What is so at the end of a complete run, by how it ended.
 pub record EndsOneWay (settings : Settings) (state : State) : Type 0 where
   -- where a fault was made, main isn't dead
   pub by_fault : 1 ≤ state.fault → is_dead (goroutine state 0).status ≡ false
