@@ -1,21 +1,21 @@
 -- A goroutine is running on a worker exactly where that worker runs it.
-use Rattle.std.proofs.Common.{◌≡◌, ◌⊎◌, ℕ, ◌<◌, ◌≤◌, Bool, true, false, List, [], ◌∷◌, ◌++◌, length, get_or, set, take, is_none, Some, None, refl, sym, ap, ◌∙◌, subst, inl, inr, zero, suc, true≢false, if◌then◌else◌, nat_lt, get_or-set_same, get_or-set_other}
+use Rattle.std.proofs.Common.{◌≡◌, ◌⊎◌, ℕ, ◌<◌, ◌≤◌, Bool, true, false, List, [], ◌∷◌, length, get_or, set, take, is_none, Some, None, refl, sym, ap, ◌∙◌, subst, inl, inr, zero, suc, true≢false, if◌then◌else◌, nat_lt, get_or-set_same, get_or-set_other}
 use Rattle.std.proofs.lemmas.List.{get_or_past}
 use Rattle.std.proofs.lemmas.Bool.{cases_lt, and_parts, ltb-true}
 use Rattle.gp_machine.specs.declared.entry.Entry.{Entry}
 use Rattle.gp_machine.specs.declared.entry.Entry.TheVariants.{Start, Run, Op, Tick, Park, Open, Refuse, Record, Close}
 use Rattle.gp_machine.specs.declared.goroutine.Goroutine.{Goroutine}
-use Rattle.gp_machine.specs.declared.goroutine.Status.TheVariants.{Runnable, Running, Blocked, Faulted, Dead}
+use Rattle.gp_machine.specs.declared.goroutine.Status.TheVariants.{Runnable, Running, Faulted, Dead}
 use Rattle.gp_machine.specs.declared.goroutine.Worker.{Worker}
 use Rattle.gp_machine.specs.declared.settings.Settings.{Settings}
 use Rattle.gp_machine.specs.State.{Code, State, nobody, resting, goroutine, worker, is_idle, first, main_goroutine}
 use Rattle.gp_machine.specs.May.{May}
 use Rattle.gp_machine.specs.Effect.{turned, recorded, started, left, ticked, is_over_after, unmarked, blocked_at, woken_at, child_of, with_goroutine, starts, passes, wakes, bears, acts, after}
-use Rattle.gp_machine.specs.Run.{AreLegal, after_all, at}
+use Rattle.gp_machine.specs.Run.{AreLegal, after_all}
 use Rattle.gp_machine.specs.RunLaws.{StatusesMatchWorkers}
 use Rattle.gp_machine.proofs.Places.{changed, pushed, replaced}
 use Rattle.gp_machine.proofs.Whole.{IsWhole, some_same, Running-same}
-use Rattle.gp_machine.proofs.Parts.{with_lines}
+use Rattle.gp_machine.proofs.Parts.{with_wait_lists}
 use Rattle.gp_machine.proofs.Acts.{acts_all}
 use Rattle.gp_machine.proofs.Steps.{step_whole}
 use Rattle.gp_machine.proofs.Law.{first_whole, all_whole, prefix_legal}
@@ -66,8 +66,8 @@ acts_on code settings w g s whole on runs =
     acts_all code settings w g s Matches whole (record {
       stays = on;
       resumed = passes_on code settings w g 1 (with_goroutine g (unmarked (goroutine s g)) s) (turns s.goroutines s.workers g (unmarked (goroutine s g)) on (λ k e. e)) runs alone;
-      passed = λ cs ms. passes_on code settings w g 1 (with_lines cs ms s) on runs alone;
-      woke = λ cs ms h blocked. passes_on code settings w g 1 (wakes h (with_lines cs ms s)) (turns s.goroutines s.workers h (woken_at s.clock (goroutine s h)) on (λ k e. absurd (cc))) runs alone;
+      passed = λ cs ms. passes_on code settings w g 1 (with_wait_lists cs ms s) on runs alone;
+      woke = λ cs ms h blocked. passes_on code settings w g 1 (wakes h (with_wait_lists cs ms s)) (turns s.goroutines s.workers h (woken_at s.clock (goroutine s h)) on (λ k e. absurd (cc))) runs alone;
       blocked = λ cs ms. moves s.goroutines s.workers w g on runs alone (blocked_at s.clock (goroutine s g)) (left (worker s w)) (λ k e. absurd (cc));
       faulted = λ cause cs ms some. moves s.goroutines s.workers w g on runs alone (turned Faulted (goroutine s g)) (left (worker s w)) (λ k e. absurd (cc));
       bore = λ function room. passes_on code settings w g 1 (bears code function g s) (pushed (IsOnWorker s.workers) nobody s.goroutines (child_of code function g s) (λ k e. absurd (cc)) on) runs alone;
@@ -119,6 +119,7 @@ first_on code settings g w e = absurd (none g e)
 pub statuses_match_workers : StatusesMatchWorkers
 statuses_match_workers code settings journal k w g legal =
     let start = first code settings in
-    let begun = prefix_legal code settings start k journal legal in
-    ((all_whole code settings start (take k journal) (first_whole code settings) begun).on_worker w g,
-    all_on code settings start (take k journal) (first_whole code settings) (first_on code settings) begun g w)
+    let begun = prefix_legal code settings start k journal legal in (
+      (all_whole code settings start (take k journal) (first_whole code settings) begun).on_worker w g,
+      all_on code settings start (take k journal) (first_whole code settings) (first_on code settings) begun g w,
+    )

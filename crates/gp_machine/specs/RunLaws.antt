@@ -8,7 +8,7 @@ use Rattle.gp_machine.specs.State.{Code, State, goroutine, worker, is_dead, is_l
 use Rattle.gp_machine.specs.Due.{IsComplete}
 use Rattle.gp_machine.specs.Effect.{after}
 use Rattle.gp_machine.specs.Run.{IsLegal, last, at}
-use Rattle.gp_machine.specs.Waiting.{places_of, LinesTell}
+use Rattle.gp_machine.specs.Waiting.{places_of, WaitListsTell}
 
 -- A legal journal's prefix is legal.
 abbrev pub PrefixesAreLegal : Type 0
@@ -30,11 +30,12 @@ BornInOrder = (code : Code) (settings : Settings) (journal : List Entry) (entry 
 
 -- In every state of a legal journal a goroutine is running on a worker exactly where that worker runs it.
 abbrev pub StatusesMatchWorkers : Type 0
-StatusesMatchWorkers = (code : Code) (settings : Settings) (journal : List Entry) (k w g : ℕ) → IsLegal code settings journal →
+StatusesMatchWorkers = (code : Code) (settings : Settings) (journal : List Entry) (k w g : ℕ) →
+    IsLegal code settings journal →
     let state = at code settings journal k in
     ((worker state w).runs ≡ Some g) ↔ ((goroutine state g).status ≡ Running w)
 
--- A goroutine waits in at most one line, and only while it is blocked.
+-- A goroutine stands in at most one wait list, and only while it is blocked.
 pub record WaitsOnce (state : State) (g : ℕ) : Type 0 where
   pub once : places_of state.channels state.mutexes g ≤ 1
   pub while_blocked : 1 ≤ places_of state.channels state.mutexes g → (goroutine state g).status ≡ Blocked
@@ -44,15 +45,16 @@ abbrev pub EachWaitsOnce : Type 0
 EachWaitsOnce = (code : Code) (settings : Settings) (journal : List Entry) (k g : ℕ) →
     IsLegal code settings journal → WaitsOnce (at code settings journal k) g
 
--- At every step of a legal journal a place in a line tells the clock at which its goroutine blocked.
-abbrev pub LinesTellClocks : Type 0
-LinesTellClocks = (code : Code) (settings : Settings) (journal : List Entry) (k : ℕ) → IsLegal code settings journal →
-    let state = at code settings journal k in LinesTell state.goroutines state.channels state.mutexes
+-- At every step of a legal journal a place in a wait list tells the clock at which its goroutine blocked.
+abbrev pub WaitListsTellClocks : Type 0
+WaitListsTellClocks = (code : Code) (settings : Settings) (journal : List Entry) (k : ℕ) → IsLegal code settings journal →
+    let state = at code settings journal k in WaitListsTell state.goroutines state.channels state.mutexes
 
 -- A Refuse leaves the state as it was, but for the served request and the number of entries.
 abbrev pub RefuseLeavesAll : Type 0
 RefuseLeavesAll = (code : Code) (settings : Settings) (state : State) (room n : ℕ) →
-    after code settings state (Refuse room n) ≡ record state { requests = drop 1 state.requests; entries = state.entries + 1 }
+    after code settings state (Refuse room n) ≡
+    record state { requests = drop 1 state.requests; entries = state.entries + 1 }
 
 -- What is so at the end of a complete run, by how it ended.
 pub record EndsOneWay (settings : Settings) (state : State) : Type 0 where

@@ -1,6 +1,6 @@
 ghost use Rattle.gp_machine.specs.State.{code_of};
 ghost use Rattle.gp_machine.specs.JournalLaw.{EpochsHold, UnrecordedStand, RowsAreFrozen};
-ghost use Rattle.gp_machine.specs.RunLaws.{PrefixesAreLegal, BornInOrder, StatusesMatchWorkers, EachWaitsOnce, LinesTellClocks, RefuseLeavesAll, RunsEndOneWay};
+ghost use Rattle.gp_machine.specs.RunLaws.{PrefixesAreLegal, BornInOrder, StatusesMatchWorkers, EachWaitsOnce, WaitListsTellClocks, RefuseLeavesAll, RunsEndOneWay};
 ghost use Rattle.gp_machine.specs.NumberLaws.{EntriesAreCounted, NumbersHold, EntriesAreBounded};
 ghost use Rattle.gp_machine.specs.Worked.{SmallestProgram, smallest, WokenBetween, wake, RoomForTwo, pair, ContendedMutex, contended, Deadlocks, deadlocked, FaultOfUnlock, faulty, Ticks, six, FullJournal, long};
 
@@ -20,7 +20,7 @@ pub fn law_runs()
     ensures births { BornInOrder }
     ensures workers { StatusesMatchWorkers }
     ensures waits { EachWaitsOnce }
-    ensures clocks { LinesTellClocks }
+    ensures clocks { WaitListsTellClocks }
     ensures refused { RefuseLeavesAll }
     ensures ends { RunsEndOneWay }
 {}

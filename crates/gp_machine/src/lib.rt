@@ -1,12 +1,12 @@
 //! The machine: goroutines that workers run, and the journal of what happened.
 //!
 //! Workers run goroutines, one each, and every step is one entry of the journal. A worker that runs one has exactly
-//! one entry that is due: a Tick where a CPU sample is due, a Park where a profile is asked for, the run is over or
-//! 1,000 instructions were run, an Op where the next point is shared, else a Run of local points. A worker that runs
-//! nothing may Start any runnable goroutine. One more actor, the profiler, opens a goroutine profile while nobody
-//! runs, or refuses it where more goroutines are live than the room allows; then goroutines run again, each recorded
-//! before it does, by the profiler or by an idle worker, and the profile is closed once all are. Epochs number the
-//! profiles, and a goroutine whose epoch is below the active one has still to be recorded.
+//! one entry that is due: a Tick where a CPU sample is due, a Park where its goroutine has to make way (to a profile, at
+//! the run's end, or after 1,000 instructions), an Op where the next point is shared, else a Run of local points. A
+//! worker that runs nothing may Start any runnable goroutine. One more actor, the profiler, opens a goroutine profile
+//! while nobody runs, or refuses it where more goroutines are live than the room allows; then goroutines run again,
+//! each recorded before it does, by the profiler or by an idle worker, and the profile is closed once all are. Epochs
+//! number the profiles, and a goroutine whose epoch is below the active one has still to be recorded.
 //!
 //! The definitions are in `specs/`, to be read in this order: `Settings`, `State` (what the machine keeps), `Due` (when
 //! a profile is asked for, when a run is over, what is due), `May` (the condition of each entry), `Effect` (what each

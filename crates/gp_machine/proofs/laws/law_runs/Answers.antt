@@ -1,4 +1,4 @@
-use Rattle.gp_machine.proofs.Clocks.{lines_tell_clocks}
+use Rattle.gp_machine.proofs.Clocks.{wait_lists_tell_clocks}
 use Rattle.gp_machine.proofs.OnWorkers.{statuses_match_workers}
 use Rattle.gp_machine.proofs.Totals.{prefixes_are_legal, born_in_order, each_waits_once, refuse_leaves_all, runs_end_one_way}
 use Rattle.gp_machine.proofs.laws.law_runs.Goals as goal
@@ -22,4 +22,4 @@ pub returns-clause-ends : goal.returns-clause-ends
 returns-clause-ends c = runs_end_one_way
 
 pub returns-clause-clocks : goal.returns-clause-clocks
-returns-clause-clocks c = lines_tell_clocks
+returns-clause-clocks c = wait_lists_tell_clocks
