@@ -12,21 +12,21 @@ use Rattle.gp_machine.specs.Due.{next_instruction}
 use Rattle.gp_machine.specs.Effect.{with_goroutine, unmarked, passes, blocks, faults, wakes, bears, meets, operates, waiter, acts}
 use Rattle.gp_machine.specs.Waiting.{places_of}
 use Rattle.gp_machine.proofs.Whole.{seats, IsWhole}
-use Rattle.gp_machine.proofs.Parts.{one_if_eq, Balances, with_lines, blocked_by}
-use Rattle.gp_machine.proofs.Lines.{send_moves, recv_moves, lock_moves, unlock_moves}
+use Rattle.gp_machine.proofs.Parts.{one_if_eq, Balances, with_wait_lists, blocked_by}
+use Rattle.gp_machine.proofs.WaitLists.{send_moves, recv_moves, lock_moves, unlock_moves}
 
--- The state after an Op of g on w is one of these, whatever the lines are then.
+-- The state after an Op of g on w is one of these, whatever the wait lists are then.
 pub record Cases (code : Code) (settings : Settings) (w g : ℕ) (s : State) (Q : State → Type 0) : Type 0 where
   pub stays : Q s
   pub resumed : Q (passes code settings w g 1 (with_goroutine g (unmarked (goroutine s g)) s))
-  pub passed : (cs : List Channel) (ms : List Mutex) → Q (passes code settings w g 1 (with_lines cs ms s))
-  pub woke : (cs : List Channel) (ms : List Mutex) (h : ℕ) → (goroutine s h).status ≡ Blocked → Q (passes code settings w g 1 (wakes h (with_lines cs ms s)))
-  pub blocked : (cs : List Channel) (ms : List Mutex) → Q (blocks w g (with_lines cs ms s))
-  pub faulted : (cause : ℕ) (cs : List Channel) (ms : List Mutex) → 1 ≤ cause → Q (faults cause w g (with_lines cs ms s))
+  pub passed : (cs : List Channel) (ms : List Mutex) → Q (passes code settings w g 1 (with_wait_lists cs ms s))
+  pub woke : (cs : List Channel) (ms : List Mutex) (h : ℕ) → (goroutine s h).status ≡ Blocked → Q (passes code settings w g 1 (wakes h (with_wait_lists cs ms s)))
+  pub blocked : (cs : List Channel) (ms : List Mutex) → Q (blocks w g (with_wait_lists cs ms s))
+  pub faulted : (cause : ℕ) (cs : List Channel) (ms : List Mutex) → 1 ≤ cause → Q (faults cause w g (with_wait_lists cs ms s))
   pub bore : (function : ℕ) → births s < settings.cells → Q (passes code settings w g 1 (bears code function g s))
 
 module _ (code : Code) (settings : Settings) (w g : ℕ) (s : State) (Q : State → Type 0) (whole : IsWhole s) (cases : Cases code settings w g s Q) where
-  meets_all : (cs : List Channel) (ms : List Mutex) (effect : Effect) → ((k : ℕ) → Balances effect g k (places_of s.channels s.mutexes k) (places_of cs ms k)) → Q (meets code settings w g effect (with_lines cs ms s))
+  meets_all : (cs : List Channel) (ms : List Mutex) (effect : Effect) → ((k : ℕ) → Balances effect g k (places_of s.channels s.mutexes k) (places_of cs ms k)) → Q (meets code settings w g effect (with_wait_lists cs ms s))
   unfolding meets
   meets_all cs ms Done balance = cases.passed cs ms
   meets_all cs ms (Wakes h since) balance =

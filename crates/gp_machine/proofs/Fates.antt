@@ -13,7 +13,7 @@ use Rattle.gp_machine.specs.State.{Code, State, nobody, goroutine, is_runnable, 
 use Rattle.gp_machine.specs.Due.{over, is_full, is_ready, some_ready, IsComplete}
 use Rattle.gp_machine.specs.May.{May}
 use Rattle.gp_machine.specs.Effect.{turned, recorded, passed, is_over_after, unmarked, blocked_at, woken_at, child_of, acts, after}
-use Rattle.gp_machine.specs.Numbers.{Grows, EndsOneWay}
+use Rattle.gp_machine.specs.RunLaws.{Grows, EndsOneWay}
 use Rattle.gp_machine.proofs.Places.{changed, pushed, none_counted}
 use Rattle.gp_machine.proofs.Whole.{IsWhole}
 use Rattle.gp_machine.proofs.Acts.{acts_all}

@@ -95,6 +95,7 @@ pair_computed =
       profiled = works code _ _ 8 2 0 1 refl refl refl refl refl;
       parallel = works code _ _ 8 2 0 1 refl refl refl refl refl;
       rows = refl;
+      parallel_rows = refl;
       no_open = fails code _ _ _ refl refl;
       no_refuse = fails code _ _ _ refl refl;
       no_open_running = fails code _ _ _ refl refl;

@@ -1,7 +1,7 @@
 pub mod Places
 pub mod Whole
 pub mod Parts
-pub mod Lines
+pub mod WaitLists
 pub mod Steps
 pub mod Acts
 pub mod Rows
@@ -14,3 +14,4 @@ pub mod Fates
 pub mod Bound
 pub mod Totals
 pub mod Clocks
+pub mod OnWorkers

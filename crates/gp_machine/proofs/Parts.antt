@@ -13,7 +13,7 @@ use Rattle.gp_machine.specs.State.{Code, State, nobody, resting, goroutine, work
 use Rattle.gp_machine.specs.Effect.{turned, is_over_after, unmarked, blocked_at, woken_at, left, worked, with_goroutine, with_worker, passes, wakes, resumes, meets}
 use Rattle.gp_machine.specs.Waiting.{places_of}
 use Rattle.gp_machine.proofs.Places.{replaced, replaced_within}
-use Rattle.gp_machine.proofs.Whole.{seats, Behind, IsWhole, Running-same, live_within, unloads, keeps_running, keeps_standing, frees, lines}
+use Rattle.gp_machine.proofs.Whole.{seats, Behind, IsWhole, Running-same, live_within, unloads, keeps_running, keeps_standing, frees, wait_lists}
 
 pub live_status : {st : Status} (x : Goroutine) → x.status ≡ st → is_dead st ≡ false → is_live x ≡ true
 live_status x e alive = ap (λ t. not (is_dead t)) e ∙ ap not alive
@@ -93,17 +93,17 @@ one_if_eq a b e = ap one_if (eq-eqb a b e)
 one_if_ne : (a b : ℕ) → (a ≡ b → ⊥) → one_if (a == b) ≡ 0
 one_if_ne a b apart = ap one_if (ne_eqb a b apart)
 
--- The state with other lines, in which an operation of g with an effect leaves them.
-abbrev pub with_lines : List Channel → List Mutex → State → State
-with_lines cs ms s = record s { channels = cs; mutexes = ms }
+-- The state with other wait lists, in which an operation of g with an effect leaves them.
+abbrev pub with_wait_lists : List Channel → List Mutex → State → State
+with_wait_lists cs ms s = record s { channels = cs; mutexes = ms }
 
 module _ (code : Code) (settings : Settings) (w g : ℕ) (s : State) (cs : List Channel) (ms : List Mutex) (whole : IsWhole s) (runs : (worker s w).runs ≡ Some g) where
-  fewer : ((k : ℕ) → places_of cs ms k ≤ places_of s.channels s.mutexes k) → IsWhole (with_lines cs ms s)
-  fewer less = lines s.goroutines s.workers s.channels s.mutexes s.active s.last_epoch whole cs ms (λ k. let a = less k in let b = whole.waits k in omega arith)
+  fewer : ((k : ℕ) → places_of cs ms k ≤ places_of s.channels s.mutexes k) → IsWhole (with_wait_lists cs ms s)
+  fewer less = wait_lists s.goroutines s.workers s.channels s.mutexes s.active s.last_epoch whole cs ms (λ k. let a = less k in let b = whole.waits k in omega arith)
 
-  pub meets_whole : (effect : Effect) → ((k : ℕ) → Balances effect g k (places_of s.channels s.mutexes k) (places_of cs ms k)) → IsWhole (meets code settings w g effect (with_lines cs ms s))
+  pub meets_whole : (effect : Effect) → ((k : ℕ) → Balances effect g k (places_of s.channels s.mutexes k) (places_of cs ms k)) → IsWhole (meets code settings w g effect (with_wait_lists cs ms s))
   unfolding meets
-  meets_whole Done balance = passes_whole code settings w g 1 (with_lines cs ms s) (fewer balance) runs
+  meets_whole Done balance = passes_whole code settings w g 1 (with_wait_lists cs ms s) (fewer balance) runs
   meets_whole (Wakes h since) balance =
       let less : (k : ℕ) → places_of cs ms k ≤ places_of s.channels s.mutexes k = λ k. let a = balance k in omega arith in
       let mine = balance h in
@@ -111,13 +111,13 @@ module _ (code : Code) (settings : Settings) (w g : ℕ) (s : State) (cs : List 
       let seat : 1 ≤ seats (goroutine s h).status = let b = whole.waits h in omega arith in
       let blocked : (goroutine s h).status ≡ Blocked = blocked_by (goroutine s h).status seat in
       let at_most : places_of s.channels s.mutexes h ≤ 1 = subst (λ t. places_of s.channels s.mutexes h ≤ seats t) blocked (whole.waits h) in
-      passes_whole code settings w g 1 (wakes h (with_lines cs ms s)) (wakes_whole h (with_lines cs ms s) (fewer less) blocked (omega arith)) runs
+      passes_whole code settings w g 1 (wakes h (with_wait_lists cs ms s)) (wakes_whole h (with_wait_lists cs ms s) (fewer less) blocked (omega arith)) runs
   meets_whole Blocks balance =
       let y = blocked_at s.clock (goroutine s g) in
       let status = whole.on_worker w g runs in
       let base = off s w g y (left (worker s w)) whole runs refl refl in
-      lines (set s.goroutines g y) (set s.workers w (left (worker s w))) s.channels s.mutexes s.active s.last_epoch base cs ms
+      wait_lists (set s.goroutines g y) (set s.workers w (left (worker s w))) s.channels s.mutexes s.active s.last_epoch base cs ms
       (replaced_within (λ n x. places_of cs ms n ≤ seats x.status) nobody s.goroutines g y (live_within s.goroutines g (live_status (goroutine s g) status refl))
       (let none = not_waiting s w g 0 whole status in let mine = balance g in let one = one_if_eq g g refl in omega arith)
       (λ n other. let mine = balance n in let zero = one_if_ne g n (λ e. other (sym e)) in let old = whole.waits n in omega arith))
-  meets_whole Fault balance = off (with_lines cs ms s) w g (turned Faulted (goroutine s g)) (left (worker s w)) (fewer balance) runs refl refl
+  meets_whole Fault balance = off (with_wait_lists cs ms s) w g (turned Faulted (goroutine s g)) (left (worker s w)) (fewer balance) runs refl refl

@@ -16,7 +16,7 @@ use Rattle.gp_machine.specs.Waiting.{places_of}
 use Rattle.gp_machine.proofs.Places.{changed, replaced_within, none_counted}
 use Rattle.gp_machine.proofs.Whole.{seats, Behind, Fits, Whole, IsWhole, some_same, live_within, keeps_running, frees, gains}
 use Rattle.gp_machine.proofs.Parts.{live_status, running_last, off, passes_whole, resumes_whole, meets_whole}
-use Rattle.gp_machine.proofs.Lines.{send_moves, recv_moves, lock_moves, unlock_moves}
+use Rattle.gp_machine.proofs.WaitLists.{send_moves, recv_moves, lock_moves, unlock_moves}
 
 -- a runnable goroutine begins to run
 pub starts_whole : (w g : ℕ) (s : State) → IsWhole s → (goroutine s g).status ≡ Runnable → is_recorded s g ≡ true → IsWhole (starts w g s)

@@ -1,4 +1,4 @@
--- The laws on the numbers of legal journals.
+-- The laws on runs and on the numbers of legal journals.
 use Rattle.std.proofs.Common.{◌≡◌, ℕ, ◌+◌, ◌≤◌, List, [], ◌∷◌, length, take, refl, sym, subst, arith}
 use Rattle.gp_machine.specs.declared.entry.Entry.{Entry}
 use Rattle.gp_machine.specs.declared.goroutine.Status.TheVariants.{Blocked}
@@ -7,7 +7,8 @@ use Rattle.gp_machine.specs.Settings.{AreInRange}
 use Rattle.gp_machine.specs.State.{Code, State, goroutine, first}
 use Rattle.gp_machine.specs.Effect.{after}
 use Rattle.gp_machine.specs.Run.{AreLegal, IsLegal, after_all, last, at}
-use Rattle.gp_machine.specs.Numbers.{PrefixesAreLegal, EntriesAreCounted, Grows, BornInOrder, EachWaitsOnce, NumbersHold, EntriesAreBounded, RefuseLeavesAll, RunsEndOneWay}
+use Rattle.gp_machine.specs.RunLaws.{PrefixesAreLegal, Grows, BornInOrder, EachWaitsOnce, RefuseLeavesAll, RunsEndOneWay}
+use Rattle.gp_machine.specs.NumberLaws.{EntriesAreCounted, NumbersHold, EntriesAreBounded}
 use Rattle.gp_machine.proofs.Whole.{seats, IsWhole, live_within}
 use Rattle.gp_machine.proofs.Parts.{blocked_by}
 use Rattle.gp_machine.proofs.Steps.{step_whole}

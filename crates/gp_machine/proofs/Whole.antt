@@ -11,7 +11,7 @@ use Rattle.gp_machine.specs.State.{State, nobody, resting, is_running, is_dead, 
 use Rattle.gp_machine.specs.Waiting.{places_of}
 use Rattle.gp_machine.proofs.Places.{changed, pushed}
 
--- how many places in lines a goroutine may have
+-- how many places in wait lists a goroutine may have
 abbrev pub seats : Status → ℕ
 seats Blocked = 1
 seats _ = 0
@@ -107,9 +107,9 @@ module _ (gs : List Goroutine) (ws : List Worker) (cs : List Channel) (ms : List
       unborn : {w : ℕ} (k : ℕ) → length gs ≡ k → (get_or gs k nobody).status ≡ Running w → ⊥
       unborn k here e = let past = get_or_past gs k nobody (omega arith) in let dead : Dead ≡ Running _ = sym (ap (λ (x : Goroutine). x.status) past) ∙ e in absurd (cc)
 
-  -- other lines, in which each goroutine still has no more places than it may
-  pub lines : (cs' : List Channel) (ms' : List Mutex) → ((g : ℕ) → places_of cs' ms' g ≤ seats (get_or gs g nobody).status) → Whole gs ws cs' ms' active last
-  lines cs' ms' waits = record {
+  -- other wait lists, in which each goroutine still has no more places than it may
+  pub wait_lists : (cs' : List Channel) (ms' : List Mutex) → ((g : ℕ) → places_of cs' ms' g ≤ seats (get_or gs g nobody).status) → Whole gs ws cs' ms' active last
+  wait_lists cs' ms' waits = record {
     on_worker = whole.on_worker;
     waits = waits;
     epochs = whole.epochs;

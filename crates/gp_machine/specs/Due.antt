@@ -26,8 +26,7 @@ is_ready g = is_runnable g.status || is_running g.status
 abbrev pub some_ready : State → Bool
 some_ready state = list_any is_ready state.goroutines
 
--- The run is over where main is dead, or a fault was made, or the journal is full, or no goroutine is runnable
--- or running.
+-- The run is over once main is dead, after a fault, once the journal is full, and while no goroutine is ready.
 unfoldable pub over : Settings → State → Bool
 over settings state =
     is_dead (goroutine state 0).status || not (state.fault == 0) || is_full settings state || not (some_ready state)
@@ -42,7 +41,7 @@ abbrev pub calls_for : Settings → State → List Request → Bool
 calls_for settings state [] = false
 calls_for settings state (next ∷ later) = has_come state.clock next || over settings state
 
--- A profile is asked for where none is active, a request is left, and its instant has come or the run is over.
+-- A profile is asked for while no other is active and the first of the requests left is to be served.
 unfoldable pub asked : Settings → State → Bool
 asked settings state = (state.active == 0) && calls_for settings state state.requests
 
@@ -53,7 +52,7 @@ pub record IsComplete (settings : Settings) (state : State) : Type 0 where
   pub none_active : state.active ≡ 0
   pub none_left : state.requests ≡ []
 
--- How a run ended: by a fault, by main, full where some goroutine is runnable, else by deadlock.
+-- How a run ended: by a fault, else by main, else full where a goroutine could go on, else by deadlock.
 abbrev pub ended : State → Ended
 ended state =
     if not (state.fault == 0) then Fault state.fault
@@ -72,8 +71,8 @@ extent code settings state w g =
     min (local_ahead (trace_of code (goroutine state g)) (goroutine state g).count)
     (min (period settings - (worker state w).instructions % period settings) (quantum - (worker state w).slice))
 
--- The due entry of a worker that runs g: a Tick where one is due; else a Park where a profile is asked for, the run
--- is over or the slice is spent; else an Op where the next point is shared; else a Run.
+-- What is due while w runs g: a Tick where its tick is due; else a Park where g has to make way, for a profile, at the
+-- end of the run or of the slice; else an Op where the next point is shared; else a Run.
 unfoldable pub due : Code → Settings → State → ℕ → ℕ → Entry
 due code settings state w g =
     if (worker state w).tick then Tick w g

@@ -175,7 +175,7 @@ operates code settings w g (Spawn function) state = spawns code settings w g fun
 operates code settings w g Local state = state
 operates code settings w g (Labels s) state = state
 
--- Where g's point is granted, the mark is cleared and the point is passed.
+-- A goroutine with the mark loses it and passes its point.
 abbrev pub resumes : Code → Settings → ℕ → ℕ → State → State
 resumes code settings w g state = passes code settings w g 1 (with_goroutine g (unmarked (goroutine state g)) state)
 

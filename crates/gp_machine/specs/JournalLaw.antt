@@ -17,7 +17,7 @@ pub record KeepsEpochs (state : State) : Type 0 where
   -- and a live one has its epoch or the one before
   pub while_active : (g : ℕ) → 0 < state.active → is_live (goroutine state g) ≡ true →
       ((goroutine state g).epoch ≡ state.active) ⊎ ((goroutine state g).epoch + 1 ≡ state.active)
-  -- while none is active, every live goroutine has the last epoch
+  -- between profiles all live ones have the last epoch
   pub while_none : (g : ℕ) → state.active ≡ 0 → is_live (goroutine state g) ≡ true →
       (goroutine state g).epoch ≡ state.last_epoch
 

@@ -8,4 +8,5 @@ pub mod Frozen
 pub mod Waiting
 pub mod JournalLaw
 pub mod Worked
-pub mod Numbers
+pub mod RunLaws
+pub mod NumberLaws

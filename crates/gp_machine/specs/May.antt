@@ -7,7 +7,7 @@ use Rattle.gp_machine.specs.declared.settings.Settings.{Settings}
 use Rattle.gp_machine.specs.State.{Code, State, goroutine, worker, is_idle, is_behind, live, running}
 use Rattle.gp_machine.specs.Due.{asked, over, due}
 
--- no profile is active, or g's epoch is the active one
+-- whether g has the active profile's epoch, where there is one
 abbrev pub is_recorded : State → ℕ → Bool
 is_recorded state g = (state.active == 0) || ((goroutine state g).epoch == state.active)
 
@@ -43,14 +43,14 @@ pub record MayRefuse (settings : Settings) (state : State) (room n : ℕ) : Type
   pub number_live : n ≡ live state
   pub too_many : room < n
 
--- `Record{actor, g}`: a profile is active, g is live and its epoch is below it, and the actor is the profiler or an
--- idle worker.
+-- `Record{actor, g}`: g has still to be recorded in the active profile, and the actor is an idle worker or the
+-- profiler.
 pub record MayRecord (settings : Settings) (state : State) (actor g : ℕ) : Type 0 where
   pub is_active : 0 < state.active
   pub unrecorded : is_behind state.active (goroutine state g) ≡ true
   pub recorder : ((actor == settings.workers) || is_idle state actor) ≡ true
 
--- `Close{epoch}`: this profile is active, and no live goroutine has an epoch below it.
+-- `Close{epoch}`: this profile is active, and nobody has still to be recorded in it.
 pub record MayClose (state : State) (epoch : ℕ) : Type 0 where
   pub is_active : 0 < state.active
   pub epoch_given : epoch ≡ state.active

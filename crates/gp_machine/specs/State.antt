@@ -40,7 +40,7 @@ pub record State : Type 0 where
   pub channels : List Channel
   pub mutexes : List Mutex
   pub workers : List Worker
-  -- the number of instructions of all workers so far
+  -- how many instructions the workers have run together
   pub clock : ℕ
   -- the requests that are left
   pub requests : List Request
@@ -124,7 +124,7 @@ is_behind epoch g = is_live g && nat_lt g.epoch epoch
 abbrev pub main_goroutine : Code → Goroutine
 main_goroutine code = record { start = code.main; set = 0; count = 0; status = Runnable; granted = false; epoch = 0; blocked = 0; woken = 0 }
 
--- The first state, in which `main` is born as goroutine 0.
+-- The first state: goroutine 0 is born, to run `main`, and nothing has happened.
 abbrev pub first : Code → Settings → State
 first code settings = record {
   goroutines = main_goroutine code ∷ [];

@@ -140,6 +140,7 @@ pub record RoomForTwo (code : Code) : Type 0 where
   pub profiled : Worked code (pair_settings 2) profiled_journal 8 2 0 1
   pub parallel : Worked code two_workers side_by_side 8 2 0 1
   pub rows : frozen_at code (pair_settings 2) profiled_journal 3 ≡ shown 0 0 3 ∷ shown 1 1 6 ∷ []
+  pub parallel_rows : frozen_at code two_workers side_by_side 3 ≡ shown 0 0 3 ∷ shown 1 1 6 ∷ []
   -- not legal: an Open where the room is too small, and a Refuse where it isn't; an Open while somebody runs; a
   -- Record of a goroutine born after the Open
   pub no_open : EndsThere code (pair_settings 1) (Start 0 0 ∷ Op 0 0 ∷ Park 0 0 ∷ []) (Open 1 1)

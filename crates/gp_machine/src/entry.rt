@@ -40,7 +40,7 @@ pub enum Ended {
     Main,
     /// 1: an unlock of a free mutex; 2: no cell was left for a goroutine to be born.
     Fault { cause: u8 },
-    /// The journal has as many entries as the settings allow, and a goroutine could go on.
+    /// The journal has at least as many entries as the option `entries` says, and a goroutine could go on.
     Full,
     /// Every live goroutine waits.
     Deadlock,

@@ -1,6 +1,7 @@
 ghost use Rattle.gp_machine.specs.State.{code_of};
 ghost use Rattle.gp_machine.specs.JournalLaw.{EpochsHold, UnrecordedStand, RowsAreFrozen};
-ghost use Rattle.gp_machine.specs.Numbers.{PrefixesAreLegal, EntriesAreCounted, BornInOrder, EachWaitsOnce, LinesTellClocks, NumbersHold, EntriesAreBounded, RefuseLeavesAll, RunsEndOneWay};
+ghost use Rattle.gp_machine.specs.RunLaws.{PrefixesAreLegal, BornInOrder, StatusesMatchWorkers, EachWaitsOnce, WaitListsTellClocks, RefuseLeavesAll, RunsEndOneWay};
+ghost use Rattle.gp_machine.specs.NumberLaws.{EntriesAreCounted, NumbersHold, EntriesAreBounded};
 ghost use Rattle.gp_machine.specs.Worked.{SmallestProgram, smallest, WokenBetween, wake, RoomForTwo, pair, ContendedMutex, contended, Deadlocks, deadlocked, FaultOfUnlock, faulty, Ticks, six, FullJournal, long};
 
 /// The journal law, of every legal journal of every program: what epochs say at each step, that goroutines which
@@ -12,13 +13,14 @@ pub fn law_journal()
     ensures rows { RowsAreFrozen }
 {}
 
-/// Laws of legal journals: prefixes, births in order, waits and the clocks at which they began, what a refused
-/// profile leaves, and how runs end.
+/// Laws of legal journals: prefixes, births in order, on which worker a goroutine runs, waits and the clocks at which
+/// they began, what a refused profile leaves, and how runs end.
 pub fn law_runs()
     ensures prefixes { PrefixesAreLegal }
     ensures births { BornInOrder }
+    ensures workers { StatusesMatchWorkers }
     ensures waits { EachWaitsOnce }
-    ensures clocks { LinesTellClocks }
+    ensures clocks { WaitListsTellClocks }
     ensures refused { RefuseLeavesAll }
     ensures ends { RunsEndOneWay }
 {}

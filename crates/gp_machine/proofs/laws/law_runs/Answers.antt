@@ -1,4 +1,5 @@
-use Rattle.gp_machine.proofs.Clocks.{lines_tell_clocks}
+use Rattle.gp_machine.proofs.Clocks.{wait_lists_tell_clocks}
+use Rattle.gp_machine.proofs.OnWorkers.{statuses_match_workers}
 use Rattle.gp_machine.proofs.Totals.{prefixes_are_legal, born_in_order, each_waits_once, refuse_leaves_all, runs_end_one_way}
 use Rattle.gp_machine.proofs.laws.law_runs.Goals as goal
 
@@ -7,6 +8,9 @@ returns-clause-prefixes c = prefixes_are_legal
 
 pub returns-clause-births : goal.returns-clause-births
 returns-clause-births c = born_in_order
+
+pub returns-clause-workers : goal.returns-clause-workers
+returns-clause-workers c = statuses_match_workers
 
 pub returns-clause-waits : goal.returns-clause-waits
 returns-clause-waits c = each_waits_once
@@ -18,4 +22,4 @@ pub returns-clause-ends : goal.returns-clause-ends
 returns-clause-ends c = runs_end_one_way
 
 pub returns-clause-clocks : goal.returns-clause-clocks
-returns-clause-clocks c = lines_tell_clocks
+returns-clause-clocks c = wait_lists_tell_clocks

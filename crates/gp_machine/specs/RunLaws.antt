@@ -1,26 +1,19 @@
--- Laws on the numbers of legal journals.
-use Rattle.std.specs.Prelude.{◌≡◌, ◌⊎◌, ◌+◌, ◌*◌, ◌≤◌, ◌<◌, ℕ, true, false, List, [], ◌∷◌, ◌++◌, length, take, drop, sum_by}
+-- Laws on what goroutines do in legal journals: on which worker they run, how they are born, wait and end.
+use Rattle.std.specs.Prelude.{◌≡◌, ◌⊎◌, ◌↔◌, ◌+◌, ◌≤◌, ◌<◌, ℕ, true, false, Some, List, [], ◌∷◌, ◌++◌, take, drop}
 use Rattle.gp_machine.specs.declared.entry.Entry.{Entry}
 use Rattle.gp_machine.specs.declared.entry.Entry.TheVariants.{Refuse}
-use Rattle.gp_machine.specs.declared.goroutine.Worker.{Worker}
-use Rattle.gp_machine.specs.declared.goroutine.Status.TheVariants.{Runnable, Blocked}
+use Rattle.gp_machine.specs.declared.goroutine.Status.TheVariants.{Runnable, Running, Blocked}
 use Rattle.gp_machine.specs.declared.settings.Settings.{Settings}
-use Rattle.gp_machine.specs.Settings.{AreInRange, quantum}
 use Rattle.gp_machine.specs.State.{Code, State, goroutine, worker, is_dead, is_live, births}
 use Rattle.gp_machine.specs.Due.{IsComplete}
 use Rattle.gp_machine.specs.Effect.{after}
 use Rattle.gp_machine.specs.Run.{IsLegal, last, at}
-use Rattle.gp_machine.specs.Waiting.{places_of, LinesTell}
+use Rattle.gp_machine.specs.Waiting.{places_of, WaitListsTell}
 
 -- A legal journal's prefix is legal.
 abbrev pub PrefixesAreLegal : Type 0
 PrefixesAreLegal = (code : Code) (settings : Settings) (journal : List Entry) (k : ℕ) →
     IsLegal code settings journal → IsLegal code settings (take k journal)
-
--- The number of entries is the journal's length.
-abbrev pub EntriesAreCounted : Type 0
-EntriesAreCounted = (code : Code) (settings : Settings) (journal : List Entry) →
-    (last code settings journal).entries ≡ length journal
 
 -- With an entry at most one goroutine is born, under the next number, and one that was born keeps its function and
 -- the set that it inherited.
@@ -35,7 +28,14 @@ BornInOrder = (code : Code) (settings : Settings) (journal : List Entry) (entry 
     IsLegal code settings (journal ++ entry ∷ []) →
     Grows (last code settings journal) (last code settings (journal ++ entry ∷ []))
 
--- A goroutine waits in at most one line, and only while it is blocked.
+-- In every state of a legal journal a goroutine is running on a worker exactly where that worker runs it.
+abbrev pub StatusesMatchWorkers : Type 0
+StatusesMatchWorkers = (code : Code) (settings : Settings) (journal : List Entry) (k w g : ℕ) →
+    IsLegal code settings journal →
+    let state = at code settings journal k in
+    ((worker state w).runs ≡ Some g) ↔ ((goroutine state g).status ≡ Running w)
+
+-- A goroutine stands in at most one wait list, and only while it is blocked.
 pub record WaitsOnce (state : State) (g : ℕ) : Type 0 where
   pub once : places_of state.channels state.mutexes g ≤ 1
   pub while_blocked : 1 ≤ places_of state.channels state.mutexes g → (goroutine state g).status ≡ Blocked
@@ -45,40 +45,18 @@ abbrev pub EachWaitsOnce : Type 0
 EachWaitsOnce = (code : Code) (settings : Settings) (journal : List Entry) (k g : ℕ) →
     IsLegal code settings journal → WaitsOnce (at code settings journal k) g
 
--- At every step of a legal journal a place in a line tells the clock at which its goroutine blocked.
-abbrev pub LinesTellClocks : Type 0
-LinesTellClocks = (code : Code) (settings : Settings) (journal : List Entry) (k : ℕ) → IsLegal code settings journal →
-    let state = at code settings journal k in LinesTell state.goroutines state.channels state.mutexes
-
--- What the numbers of a state keep.
-pub record KeepsNumbers (settings : Settings) (state : State) : Type 0 where
-  pub clock_is_sum : state.clock ≡ sum_by (λ (w : Worker). w.instructions) state.workers
-  pub clock_bound : state.clock ≤ quantum * state.entries
-  pub slice_bound : (w : ℕ) → (worker state w).slice ≤ quantum
-  pub births_bound : births state ≤ settings.cells
-  pub live_bound : (g : ℕ) → is_live (goroutine state g) ≡ true → g < settings.cells
-  pub epoch_bound : state.last_epoch ≤ 8
-
--- That holds at every step of a legal journal.
-abbrev pub NumbersHold : Type 0
-NumbersHold = (code : Code) (settings : Settings) (journal : List Entry) (k : ℕ) → AreInRange settings →
-    IsLegal code settings journal → KeepsNumbers settings (at code settings journal k)
-
--- the most entries of a legal journal
-abbrev pub most_entries : Settings → ℕ
-most_entries settings = settings.entries + 8 * (settings.cells + 2) + 2 * settings.workers + 2
-
--- A legal journal has no more.
-abbrev pub EntriesAreBounded : Type 0
-EntriesAreBounded = (code : Code) (settings : Settings) (journal : List Entry) → AreInRange settings →
-    IsLegal code settings journal → length journal ≤ most_entries settings
+-- At every step of a legal journal a place in a wait list tells the clock at which its goroutine blocked.
+abbrev pub WaitListsTellClocks : Type 0
+WaitListsTellClocks = (code : Code) (settings : Settings) (journal : List Entry) (k : ℕ) → IsLegal code settings journal →
+    let state = at code settings journal k in WaitListsTell state.goroutines state.channels state.mutexes
 
 -- A Refuse leaves the state as it was, but for the served request and the number of entries.
 abbrev pub RefuseLeavesAll : Type 0
 RefuseLeavesAll = (code : Code) (settings : Settings) (state : State) (room n : ℕ) →
-    after code settings state (Refuse room n) ≡ record state { requests = drop 1 state.requests; entries = state.entries + 1 }
+    after code settings state (Refuse room n) ≡
+    record state { requests = drop 1 state.requests; entries = state.entries + 1 }
 
--- How a complete run ended: the four ways exclude each other.
+-- What is so at the end of a complete run, by how it ended.
 pub record EndsOneWay (settings : Settings) (state : State) : Type 0 where
   -- where a fault was made, main isn't dead
   pub by_fault : 1 ≤ state.fault → is_dead (goroutine state 0).status ≡ false
