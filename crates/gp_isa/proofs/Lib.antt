@@ -1,2 +1,4 @@
 pub mod Positions
 pub mod Work
+pub mod BareBodies
+pub mod Sizes

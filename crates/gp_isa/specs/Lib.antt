@@ -2,3 +2,5 @@ pub mod Statement
 pub mod Trace
 pub mod Limits
 pub mod Checked
+pub mod Calls
+pub mod Size

@@ -13,11 +13,13 @@
 #![tactic(auto)]
 
 mod bad;
+mod empty;
 mod frame;
 mod memory;
 mod parts;
 mod program;
 mod sequence;
+mod size;
 mod statement;
 mod text;
 
