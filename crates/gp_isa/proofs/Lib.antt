@@ -2,3 +2,4 @@ pub mod Positions
 pub mod Work
 pub mod BareBodies
 pub mod Sizes
+pub mod Points

@@ -1,4 +1,4 @@
-ghost use Rattle.std.specs.Prelude.{◌≡◌, ◌<◌, ◌-◌, ◌+◌, ◌++◌, ◌^◌, ℕ, List, ◌∷◌, [], length, map, replicate, All};
+ghost use Rattle.std.specs.Prelude.{◌≡◌, ◌<◌, ◌-◌, ◌+◌, ◌++◌, ◌^◌, ℕ, List, ◌∷◌, [], length, map, replicate, All, slice_index_or};
 ghost use Rattle.gp_isa.specs.Statement.{action};
 ghost use Rattle.gp_isa.specs.Trace.{Point, Instruction, Local, point_at, called_at, repeated, points_at, points_of_body};
 ghost use Rattle.gp_isa.specs.Size.{size_of, AreSizes, points_inside};
@@ -77,4 +77,51 @@ impl Size {
             frames: if n == 0 { 0 } else { self.frames },
         }
     }
+}
+
+// The points of a function's statements, where `sizes` are those of the functions called, and loops stand at most
+// `deep` inside each other.
+#[cycle(size)]
+fn body_size(body: &[Stmt], deep: u8, sizes: &[Size]) -> Size
+    requires { All (λ s. s.frames < 2 ^ 32 - 1) sizes.now }
+    ensures { (calls : ℕ → List Point) (f : ℕ) → AreSizes sizes.now calls → result ≡ size_of (points_of_body calls f deep body.now) }
+{
+    let mut total = Size::none();
+    for statement in body {
+        total = total.then(statement_size(&statement.what, deep, sizes));
+    }
+    total
+}
+
+// The points of one statement.
+#[cycle(size)]
+fn statement_size(what: &What, deep: u8, sizes: &[Size]) -> Size
+    requires { All (λ s. s.frames < 2 ^ 32 - 1) sizes.now }
+    ensures { (calls : ℕ → List Point) (f line : ℕ) → AreSizes sizes.now calls → result ≡ size_of (points_at calls (points_inside calls f deep) f line (action what.now)) }
+{
+    match what {
+        What::Work { n } => Size::work(*n),
+        What::Call { f } => size_at(sizes, *f).called(),
+        What::Loop { n, body, .. } => {
+            let once = if deep == 0 {
+                Size::none()
+            } else {
+                body_size(body.as_slice(), deep - 1, sizes)
+            };
+            once.repeated(*n)
+        }
+        What::Send { .. }
+        | What::Recv { .. }
+        | What::Lock { .. }
+        | What::Unlock { .. }
+        | What::Spawn { .. }
+        | What::Labels { .. } => Size::one(),
+    }
+}
+
+// The points of function `f`, none past the table's end.
+fn size_at(sizes: &[Size], f: u32) -> Size
+    ensures { result ≡ slice_index_or sizes.now f (size_of []) }
+{
+    sizes.get(f as usize).copied().unwrap_or(Size::none())
 }
