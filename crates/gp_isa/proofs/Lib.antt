@@ -3,3 +3,5 @@ pub mod Work
 pub mod BareBodies
 pub mod Sizes
 pub mod Points
+pub mod Frames
+pub mod Tables

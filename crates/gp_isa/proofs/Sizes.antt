@@ -14,7 +14,7 @@ sized points frames = record { points = points; frames = frames }
 abbrev capped : ℕ → ℕ
 capped n = min n (longest + 1)
 
-most_frames-append : (points more : List Point) → most_frames (points ++ more) ≡ max (most_frames points) (most_frames more)
+pub most_frames-append : (points more : List Point) → most_frames (points ++ more) ≡ max (most_frames points) (most_frames more)
 most_frames-append [] more = omega arith
 most_frames-append (p ∷ points) more = omega (arith, most_frames-append points more)
 
@@ -28,7 +28,7 @@ called_frames : (f line : ℕ) (point : Point) → length (called_at f line poin
 called_frames f line point = length-append point.stack _
 
 -- a call puts one frame on each stack
-most_frames-called : (f line : ℕ) (p : Point) (points : List Point) →
+pub most_frames-called : (f line : ℕ) (p : Point) (points : List Point) →
     most_frames (map (called_at f line) (p ∷ points)) ≡ most_frames (p ∷ points) + 1
 most_frames-called f line p [] = omega (arith, called_frames f line p)
 most_frames-called f line p (q ∷ points) = omega (arith, called_frames f line p, most_frames-called f line q points)
@@ -49,7 +49,7 @@ length-repeated : (n : ℕ) (points : List Point) → length (repeated n points)
 length-repeated zero points = omega arith
 length-repeated (suc n) points = omega (arith, length-append points (repeated n points), length-repeated n points)
 
-most_frames-repeated : (n : ℕ) (points : List Point) → most_frames (repeated (suc n) points) ≡ most_frames points
+pub most_frames-repeated : (n : ℕ) (points : List Point) → most_frames (repeated (suc n) points) ≡ most_frames points
 most_frames-repeated zero points = most_frames-append points [] ∙ omega arith
 most_frames-repeated (suc n) points = most_frames-append points (repeated (suc n) points) ∙ omega (arith, most_frames-repeated n points)
 
@@ -76,7 +76,7 @@ pub size_of-repeated_none : (points : List Point) (m n : ℕ) (a : Size) → m �
 size_of-repeated_none points m zero a em none = ap₂ sized (omega (arith, em)) refl
 size_of-repeated_none points m (suc n) a em none = absurd (omega arith)
 
-most_frames-work : (n f line : ℕ) → most_frames (replicate (suc n) (point_at f line Local)) ≡ 1
+pub most_frames-work : (n f line : ℕ) → most_frames (replicate (suc n) (point_at f line Local)) ≡ 1
 most_frames-work zero f line = refl
 most_frames-work (suc n) f line = omega (arith, most_frames-work n f line)
 

@@ -3,10 +3,7 @@ ghost use Rattle.gp_isa.specs.Statement.{action};
 ghost use Rattle.gp_isa.specs.Checked.{lacks_statement, loop_lacks, first_empty};
 
 use crate::parts::Parts;
-use crate::statement::{Stmt, What};
-
-/// Loops stand at most this deep inside each other.
-const NESTING: u8 = 8;
+use crate::statement::{NESTING, Stmt, What};
 
 // Whether a body, or that of a loop in it, has no statement, where loops stand at most `deep` inside each other.
 #[cycle(bare)]

@@ -1,20 +1,23 @@
-ghost use Rattle.std.specs.Prelude.{◌≡◌, ◌<◌, ◌-◌, ◌+◌, ◌++◌, ◌^◌, ℕ, List, ◌∷◌, [], length, map, replicate, All, slice_index_or};
+ghost use Rattle.std.specs.Prelude.{◌≡◌, ◌<◌, ◌-◌, ◌+◌, ◌++◌, ◌^◌, ℕ, List, ◌∷◌, [], length, map, replicate, All, IfOk, ◌≤◌, slice_index_or};
 ghost use Rattle.gp_isa.specs.Statement.{action};
-ghost use Rattle.gp_isa.specs.Trace.{Point, Instruction, Local, point_at, called_at, repeated, points_at, points_of_body};
+ghost use Rattle.gp_isa.specs.Trace.{Point, Instruction, Local, point_at, called_at, repeated, points_at, points_of_body, points_of, trace};
 ghost use Rattle.gp_isa.specs.Size.{size_of, AreSizes, points_inside};
 
-use crate::statement::{Stmt, What};
+use crate::memory::Memory;
+use crate::parts::Parts;
+use crate::statement::{NESTING, Stmt, What};
+use std::alloc::Global;
 
 /// The most points that a trace may have.
-const LONGEST: u64 = 1 << 40;
+pub const LONGEST: u64 = 1 << 40;
 
 /// What is kept of a list of points.
 #[derive(Clone, Copy, Debug)]
-struct Size {
+pub struct Size {
     /// The number of points, where all numbers above the limit are one.
-    points: u64,
+    pub points: u64,
     /// The most frames of a stack of these points.
-    frames: u32,
+    pub frames: u32,
 }
 
 impl Size {
@@ -124,4 +127,31 @@ fn size_at(sizes: &[Size], f: u32) -> Size
     ensures { result ≡ slice_index_or sizes.now f (size_of []) }
 {
     sizes.get(f as usize).copied().unwrap_or(Size::none())
+}
+
+// The sizes with calls followed one deeper.
+fn deeper_sizes(alloc: Global, parts: &Parts, sizes: &[Size]) -> Result<Vec<Size>, Memory>
+    requires { All (λ s. s.frames < 2 ^ 32 - 1) sizes.now }
+    ensures len { IfOk result (λ deeper. length deeper.items ≡ length parts.now.functions) }
+    ensures sizes { IfOk result (λ deeper. (calls : ℕ → List Point) → AreSizes sizes.now calls → AreSizes deeper.items (points_of parts.now calls)) }
+{
+    let mut deeper = Vec::new(alloc);
+    for function in parts.functions.as_slice() {
+        deeper.push(body_size(function.body.as_slice(), NESTING, sizes))?;
+    }
+    Ok(deeper)
+}
+
+/// The sizes of the functions' traces. Calls go no deeper than there are functions, so each round looks at each
+/// statement once.
+pub fn trace_sizes(alloc: Global, parts: &Parts) -> Result<Vec<Size>, Memory>
+    requires { length parts.now.functions ≤ 256 }
+    ensures len { IfOk result (λ sizes. length sizes.items ≡ length parts.now.functions) }
+    ensures sizes { IfOk result (λ sizes. AreSizes sizes.items (trace parts.now)) }
+{
+    let mut sizes = deeper_sizes(alloc, parts, &[])?;
+    for _round in 0..parts.functions.len() {
+        sizes = deeper_sizes(alloc, parts, sizes.as_slice())?;
+    }
+    Ok(sizes)
 }
