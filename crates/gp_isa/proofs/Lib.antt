@@ -5,3 +5,4 @@ pub mod Sizes
 pub mod Points
 pub mod Frames
 pub mod Tables
+pub mod Marks

@@ -1,11 +1,11 @@
 -- Who calls whom, and what a checked program is.
-use Rattle.std.specs.Prelude.{◌≡◌, ◌+◌, ◌^◌, ◌≤◌, ◌<◌, ℕ, zero, suc, Bool, true, false, not, ◌||◌, ◌==◌, List, [], ◌∷◌, ◌++◌, length, Option, Some, None, IsSome, nat_lt}
+use Rattle.std.specs.Prelude.{◌≡◌, ◌+◌, ◌^◌, ℕ, zero, suc, Bool, true, false, ◌||◌, ◌==◌, List, [], ◌∷◌, length, Option, Some, None, IsSome, nat_lt}
 use Rattle.std.specs.List.{flat_map, list_any}
 use Rattle.gp_isa.specs.declared.bad.Bad.{Bad}
 use Rattle.gp_isa.specs.declared.bad.Bad.TheVariants.{NoMain, Empty, Recursion, TooLong, Memory}
 use Rattle.gp_isa.specs.declared.parts.Parts.{Parts}
 use Rattle.gp_isa.specs.declared.statement.Stmt.{Stmt}
-use Rattle.gp_isa.specs.declared.statement.What.TheOpen.{What-F, Work, Call, Loop, Send, Recv, Lock, Unlock, Spawn, Labels}
+use Rattle.gp_isa.specs.declared.statement.What.TheOpen.{Call, Loop}
 use Rattle.gp_isa.specs.Statement.{Action, action_of}
 use Rattle.gp_isa.specs.Checked.{main_of, first_empty}
 use Rattle.gp_isa.specs.Trace.{body_of, points_of, trace_within, trace}

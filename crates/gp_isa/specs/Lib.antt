@@ -4,3 +4,4 @@ pub mod Limits
 pub mod Checked
 pub mod Calls
 pub mod Size
+pub mod Ways

@@ -13,6 +13,7 @@
 #![tactic(auto)]
 
 mod bad;
+mod calls;
 mod empty;
 mod frame;
 mod memory;
