@@ -6,3 +6,5 @@ pub mod Points
 pub mod Frames
 pub mod Tables
 pub mod Marks
+pub mod First
+pub mod Rows

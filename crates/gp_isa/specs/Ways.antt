@@ -1,5 +1,5 @@
 -- Ways of calls, and tables of who is led to from where.
-use Rattle.std.specs.Prelude.{◌≡◌, ◌<◌, ℕ, zero, suc, Bool, true, false, ◌||◌, ◌==◌, List, [], ◌∷◌, length, slice_index_or, IsTrue}
+use Rattle.std.specs.Prelude.{◌≡◌, ◌<◌, ℕ, zero, suc, Bool, true, false, ◌||◌, ◌&&◌, ◌==◌, List, [], ◌∷◌, length, slice_index_or, IsTrue}
 use Rattle.std.specs.Bool.{Decides}
 use Rattle.std.specs.List.{All, list_any}
 use Rattle.gp_isa.specs.declared.parts.Parts.{Parts}
@@ -37,3 +37,11 @@ pub record LeadsBelow (parts : Parts) (bound f h : ℕ) : Type 0 where
 -- A table has a row for each function, with a mark where calls lead through functions below a number.
 pub record AreLeads (parts : Parts) (bound : ℕ) (rows : List (List Bool)) : Type 0 where
   pub each : (f h : ℕ) → Decides (marked (slice_index_or rows f []) h) (LeadsBelow parts bound f h)
+
+-- A table has a row for each function, with a mark where it calls.
+pub record AreCalls (parts : Parts) (rows : List (List Bool)) : Type 0 where
+  pub each : (f h : ℕ) → marked (slice_index_or rows f []) h ≡ is_among h (callees parts f)
+
+-- Rows after ways through one more function: from f to it, and from it on.
+pub record GoThrough (old new : List (List Bool)) (through : ℕ) : Type 0 where
+  pub each : (f h : ℕ) → marked (slice_index_or new f []) h ≡ (marked (slice_index_or old f []) h || (marked (slice_index_or old f []) through && marked (slice_index_or old through []) h))

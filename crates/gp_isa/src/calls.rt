@@ -1,7 +1,8 @@
-ghost use Rattle.std.specs.Prelude.{◌≡◌, ◌<◌, ◌-◌, ◌+◌, ℕ, List, length, All, IfOk};
+ghost use Rattle.std.specs.Prelude.{◌≡◌, ◌<◌, ◌-◌, ◌+◌, ◌≤◌, ℕ, ◌||◌, List, [], length, All, IfOk, IfSome, slice_index_or};
+ghost use Rattle.gp_isa.specs.Limits.{AreInLimits};
 ghost use Rattle.gp_isa.specs.Statement.{action};
-ghost use Rattle.gp_isa.specs.Calls.{calls_of, calls_in, callees};
-ghost use Rattle.gp_isa.specs.Ways.{calls_inside, AddsMarks, AreLeads};
+ghost use Rattle.gp_isa.specs.Calls.{calls_of, calls_in, callees, first_from};
+ghost use Rattle.gp_isa.specs.Ways.{calls_inside, is_among, marked, AddsMarks, AreCalls, GoThrough, AreLeads};
 
 use crate::memory::Memory;
 use crate::parts::Parts;
@@ -43,4 +44,69 @@ fn mark_statement(what: &What, deep: u8, row: &mut [bool])
         | What::Spawn { .. }
         | What::Labels { .. } => {}
     }
+}
+
+// The functions that a function's statements call.
+fn call_row(body: &[Stmt]) -> Row
+    requires { All (λ h. h < 256) (calls_in 8 body.now) }
+    ensures { (h : ℕ) → marked result h ≡ is_among h (calls_in 8 body.now) }
+{
+    let mut row = [false; 256];
+    mark_calls(body, NESTING, &mut row);
+    row
+}
+
+// A row for each function, with marks at those that it calls.
+fn call_rows(alloc: Global, parts: &Parts) -> Result<Vec<Row>, Memory>
+    requires { AreInLimits parts.now }
+    ensures len { IfOk result (λ rows. length rows.items ≡ length parts.now.functions) }
+    ensures calls { IfOk result (λ rows. AreCalls parts.now rows.items) }
+{
+    let mut rows = Vec::new(alloc);
+    for function in parts.functions.as_slice() {
+        rows.push(call_row(function.body.as_slice()))?;
+    }
+    Ok(rows)
+}
+
+// The marks of both rows.
+fn joined(row: Row, onward: Row) -> Row
+    ensures { (h : ℕ) → marked result h ≡ (marked row h || marked onward h) }
+{
+    let mut both = row;
+    for h in 0..256 {
+        if onward[h] {
+            both[h] = true;
+        }
+    }
+    both
+}
+
+// Who leads to a function leads to where it leads.
+fn go_through(rows: &mut [Row], through: usize)
+    requires few { length rows.old ≤ 256 }
+    requires within { through < length rows.old }
+    ensures { GoThrough rows.old rows.new through }
+{
+    let onward = rows[through];
+    for f in 0..rows.len() {
+        let row = rows[f];
+        if row[through] {
+            rows[f] = joined(row, onward);
+        }
+    }
+}
+
+// The first row with a mark at its own place.
+fn round_trip(rows: &[Row]) -> Option<usize>
+    requires { length rows.now ≤ 256 }
+    ensures place { result ≡ first_from (λ f. marked (slice_index_or rows.now f []) f) 0 (length rows.now) }
+    ensures within { IfSome result (λ f. f < length rows.now) }
+{
+    for (f, row) in rows.iter().enumerate() {
+        if row[f] {
+            return Some(f);
+        }
+    }
+    None
 }

@@ -1,0 +1,14 @@
+use Rattle.std.proofs.Common.{◌≡◌, ◌<◌, ◌≤◌, ℕ, [], true, false, length, get_or, sym, ap, ◌∙◌, arith}
+use Rattle.std.proofs.lemmas.List.{get_or_default}
+use Rattle.gp_isa.specs.Ways.{marked}
+use Rattle.gp_isa.proofs.First.{first_from-Some, first_from-None}
+use Rattle.gp_isa.proofs.calls.round_trip.Goals as goal
+
+pub returns-then-row-f-clause-place : goal.returns-then-row-f-clause-place
+returns-then-row-f-clause-place c =
+    sym (first_from-Some (λ f. marked (get_or c.args.rows.now f []) f) 0 (length c.args.rows.now) c.loop-f.f (omega arith) (omega (arith, c.loop-f-test.true)) c.if-row-f.true
+         (λ j above below. c.loop-f.invariant j below))
+
+pub returns-clause-place : goal.returns-clause-place
+returns-clause-place c = sym (first_from-None (λ f. marked (get_or c.args.rows.now f []) f) 0 (length c.args.rows.now)
+    (λ j above below. c.loop-f.invariant j (omega (arith, c.loop-f-test.false, c.loop-f.auto, below))))
