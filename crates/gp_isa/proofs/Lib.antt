@@ -8,3 +8,4 @@ pub mod Tables
 pub mod Marks
 pub mod First
 pub mod Rows
+pub mod Named
