@@ -9,3 +9,4 @@ pub mod Marks
 pub mod First
 pub mod Rows
 pub mod Named
+pub mod Leads

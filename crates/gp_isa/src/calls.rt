@@ -1,7 +1,7 @@
 ghost use Rattle.std.specs.Prelude.{◌≡◌, ◌<◌, ◌-◌, ◌+◌, ◌≤◌, ℕ, ◌||◌, List, [], length, All, IfOk, IfSome, slice_index_or};
 ghost use Rattle.gp_isa.specs.Limits.{AreInLimits};
 ghost use Rattle.gp_isa.specs.Statement.{action};
-ghost use Rattle.gp_isa.specs.Calls.{calls_of, calls_in, callees, first_from};
+ghost use Rattle.gp_isa.specs.Calls.{calls_of, calls_in, callees, first_from, first_recursive};
 ghost use Rattle.gp_isa.specs.Ways.{calls_inside, is_among, marked, AddsMarks, AreCalls, GoThrough, AreLeads};
 
 use crate::memory::Memory;
@@ -109,4 +109,27 @@ fn round_trip(rows: &[Row]) -> Option<usize>
         }
     }
     None
+}
+
+// A row for each function, with marks where calls lead: after each round those through one function more.
+fn lead_rows(alloc: Global, parts: &Parts) -> Result<Vec<Row>, Memory>
+    requires { AreInLimits parts.now }
+    ensures len { IfOk result (λ rows. length rows.items ≡ length parts.now.functions) }
+    ensures leads { IfOk result (λ rows. AreLeads parts.now (length parts.now.functions) rows.items) }
+{
+    let mut rows = call_rows(alloc, parts)?;
+    for through in 0..parts.functions.len() {
+        go_through(rows.as_mut_slice(), through);
+    }
+    Ok(rows)
+}
+
+/// The first function that can call itself, directly or through others.
+pub fn recursive_place(alloc: Global, parts: &Parts) -> Result<Option<usize>, Memory>
+    requires { AreInLimits parts.now }
+    ensures place { IfOk result (λ place. place ≡ first_recursive parts.now) }
+    ensures within { IfOk result (λ place. IfSome place (λ f. f < length parts.now.functions)) }
+{
+    let rows = lead_rows(alloc, parts)?;
+    Ok(round_trip(rows.as_slice()))
 }
