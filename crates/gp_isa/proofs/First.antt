@@ -29,3 +29,17 @@ pub first_from-same : (p q : ℕ → Bool) (from n : ℕ) → ((j : ℕ) → p j
 first_from-same p q from zero same = refl
 first_from-same p q from (suc n) same =
     ap (λ b. choose b (first_from p (suc from) n) from) (same from) ∙ ap (λ rest. choose (q from) rest from) (first_from-same p q (suc from) n same)
+
+-- where none passes, each fails
+pub each_fails : (test : ℕ → Bool) (from n : ℕ) → first_from test from n ≡ None → (k : ℕ) → from ≤ k → k < from + n → test k ≡ false
+each_fails test from zero none k low high = absurd (omega arith)
+each_fails test from (suc n) none k low high = at (test from) refl (each_fails test (suc from) n)
+  where
+    at : (b : Bool) → test from ≡ b → (first_from test (suc from) n ≡ None → (j : ℕ) → suc from ≤ j → j < suc from + n → test j ≡ false) → test k ≡ false
+    at true here rest =
+        let never : Some from ≡ None = sym (ap (λ b. choose b (first_from test (suc from) n) from) here) ∙ none in absurd (cc)
+    at false here rest = by (cases_lt from k)
+      where
+        by : (from < k) ⊎ (k ≤ from) → test k ≡ false
+        by (inl later) = rest (sym (ap (λ b. choose b (first_from test (suc from) n) from) here) ∙ none) k later (omega arith)
+        by (inr now) = let same : from ≡ k = omega arith in subst (λ j. test j ≡ false) same here

@@ -1,5 +1,3 @@
-pub mod Positions
-pub mod Work
 pub mod BareBodies
 pub mod Sizes
 pub mod Points
@@ -10,3 +8,4 @@ pub mod First
 pub mod Rows
 pub mod Named
 pub mod Leads
+pub mod Lengths

@@ -5,3 +5,4 @@ pub mod Checked
 pub mod Calls
 pub mod Size
 pub mod Ways
+pub mod Kept

@@ -1,7 +1,8 @@
-ghost use Rattle.std.specs.Prelude.{◌≡◌, ◌<◌, ◌-◌, ◌+◌, ◌++◌, ◌^◌, ℕ, List, ◌∷◌, [], length, map, replicate, All, IfOk, ◌≤◌, slice_index_or};
+ghost use Rattle.std.specs.Prelude.{◌≡◌, ◌<◌, ◌-◌, ◌+◌, ◌++◌, ◌^◌, ℕ, List, ◌∷◌, [], length, map, replicate, All, IfOk, IfSome, ◌≤◌, nat_lt, slice_index_or};
+ghost use Rattle.gp_isa.specs.Calls.{longest, first_from};
 ghost use Rattle.gp_isa.specs.Statement.{action};
 ghost use Rattle.gp_isa.specs.Trace.{Point, Instruction, Local, point_at, called_at, repeated, points_at, points_of_body, points_of, trace};
-ghost use Rattle.gp_isa.specs.Size.{size_of, AreSizes, points_inside};
+ghost use Rattle.gp_isa.specs.Size.{size_of, AreSizes, most_frames_below, points_inside};
 
 use crate::memory::Memory;
 use crate::parts::Parts;
@@ -154,4 +155,28 @@ pub fn trace_sizes(alloc: Global, parts: &Parts) -> Result<Vec<Size>, Memory>
         sizes = deeper_sizes(alloc, parts, sizes.as_slice())?;
     }
     Ok(sizes)
+}
+
+/// The first function whose trace is too long.
+pub fn long_place(sizes: &[Size]) -> Option<usize>
+    ensures place { result ≡ first_from (λ f. nat_lt longest (slice_index_or sizes.now f (size_of [])).points) 0 (length sizes.now) }
+    ensures within { IfSome result (λ f. f < length sizes.now) }
+{
+    for (f, size) in sizes.iter().enumerate() {
+        if size.points > LONGEST {
+            return Some(f);
+        }
+    }
+    None
+}
+
+/// The most frames of a stack in all traces.
+pub fn most_frames(sizes: &[Size]) -> u32
+    ensures { (traces : ℕ → List Point) → AreSizes sizes.now traces → result ≡ most_frames_below traces (length sizes.now) }
+{
+    let mut most = 0;
+    for size in sizes {
+        most = size.frames.max(most);
+    }
+    most
 }
