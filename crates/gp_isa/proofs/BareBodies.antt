@@ -13,5 +13,5 @@ lacks_at zero body i s deep within here lacks = absurd (omega arith)
 lacks_at (suc deep) body i s pos within here lacks =
     or_right (is_nil body) (list_any (λ t. loop_lacks (lacks_statement deep) (action_of t)) body)
     (list_any_at (λ t. loop_lacks (lacks_statement deep) (action_of t)) body i s within
-     (subst (λ t. loop_lacks (lacks_statement deep) (action_of t) ≡ true) here
-      (let one : suc deep - 1 ≡ deep = omega arith in subst (λ d. loop_lacks (lacks_statement d) (action_of s) ≡ true) one lacks)))
+    (subst (λ t. loop_lacks (lacks_statement deep) (action_of t) ≡ true) here
+    (let one : suc deep - 1 ≡ deep = omega arith in subst (λ d. loop_lacks (lacks_statement d) (action_of s) ≡ true) one lacks)))

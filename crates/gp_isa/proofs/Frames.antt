@@ -36,8 +36,12 @@ module _ (calls : ℕ → List Point) (bound : ℕ) (few : (h : ℕ) → most_fr
     body_few : (body : List Stmt) → most_frames (flat_map (λ s. points_at calls inner f (line_of s) (action_of s)) body) ≤ bound + 1
     body_few [] = omega arith
     body_few (s ∷ body) =
-        omega (arith, most_frames-append (points_at calls inner f (line_of s) (action_of s)) (flat_map (λ s. points_at calls inner f (line_of s) (action_of s)) body),
-               action_few (line_of s) (action_of s), body_few body)
+        omega (
+          arith,
+          most_frames-append (points_at calls inner f (line_of s) (action_of s)) (flat_map (λ s. points_at calls inner f (line_of s) (action_of s)) body),
+          action_few (line_of s) (action_of s),
+          body_few body,
+        )
 
   nested_few : (deep : ℕ) (body : List Stmt) → most_frames (points_of_body calls f deep body) ≤ bound + 1
   nested_few zero body = body_few (λ _. []) (λ _. omega arith) body

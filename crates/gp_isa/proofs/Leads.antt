@@ -17,14 +17,12 @@ module _ (parts : Parts) where
   joined_way f g h [] after first second = (first, second)
   joined_way f g h (b ∷ before) after first second = (first.0, joined_way b g h before after first.1 second)
 
-
   joined_leads : (k f h : ℕ) → LeadsBelow parts k f k → LeadsBelow parts k k h → LeadsBelow parts (k + 1) f h
-
   joined_leads k f h first second = record {
     via = first.via ++ k ∷ second.via;
     below = All-append (λ g. g < k + 1) first.via (k ∷ second.via) (wider first.via first.below)
-      (All-cons (λ g. g < k + 1) k second.via (omega arith) (wider second.via second.below));
-    way = joined_way f k h first.via second.via first.way second.way
+        (All-cons (λ g. g < k + 1) k second.via (omega arith) (wider second.via second.below));
+    way = joined_way f k h first.via second.via first.way second.way;
   }
     where
       wider : (via : List ℕ) → All (λ g. g < k) via → All (λ g. g < k + 1) via
@@ -34,7 +32,7 @@ module _ (parts : Parts) where
   wider_leads k f h leads = record {
     via = leads.via;
     below = All-weaker (λ g. g < k) (λ g. g < k + 1) (λ g less. omega arith) leads.via leads.below;
-    way = leads.way
+    way = leads.way;
   }
 
   -- one function more in front
@@ -42,7 +40,7 @@ module _ (parts : Parts) where
   leads_on k f g h calls less leads = record {
     via = g ∷ leads.via;
     below = All-cons (λ j. j < k) g leads.via less leads.below;
-    way = (calls, leads.way)
+    way = (calls, leads.way);
   }
 
   leads_at_once : (k f h : ℕ) → is_among h (callees parts f) ≡ true → LeadsBelow parts k f h
@@ -57,6 +55,7 @@ module _ (parts : Parts) where
     where
       least : g < k + 1
       least = All-head (λ j. j < k + 1) g via below
+
       at : (g < k) ⊎ (k ≤ g) → LeadsBelow parts k g h ⊎ (LeadsBelow parts k g k × LeadsBelow parts k k h) → LeadsBelow parts k f h ⊎ (LeadsBelow parts k f k × LeadsBelow parts k k h)
       at (inl less) (inl leads) = inl (leads_on k f g h way.0 less leads)
       at (inl less) (inr leads) = inr (leads_on k f g k way.0 less leads.0, leads.1)
@@ -86,6 +85,7 @@ module _ (parts : Parts) where
           by (inr through) =
               let both = and_parts (marked (get_or old f []) k) (marked (get_or old k []) h) through in
               joined_leads k f h ((leads.each f k).0 both.0) ((leads.each k h).0 both.1)
+
       from : (f h : ℕ) → LeadsBelow parts (k + 1) f h → marked (get_or new f []) h ≡ true
       from f h way = go.each f h ∙ by (apart k h way.via f way.below way.way)
         where
@@ -138,7 +138,7 @@ module _ (parts : Parts) where
             via = g ∷ short.via;
             way = (way.0, short.way);
             distinct = (other g short.via once, short.distinct);
-            below = All-cons (λ j. j < length parts.functions) g short.via (All-head (λ j. j < length parts.functions) g via below) short.below
+            below = All-cons (λ j. j < length parts.functions) g short.via (All-head (λ j. j < length parts.functions) g via below) short.below;
           }
 
   among_below : (via : List ℕ) → All (λ j. j < length parts.functions) via → (q : ℕ) → list_any (eqb q) via ≡ true → q < length parts.functions
@@ -181,9 +181,11 @@ module _ (parts : Parts) where
       where
         here : j < length parts.functions
         here = All-head (λ j. j < length parts.functions) j hs there
+
         choice : ((h == j) ≡ true) ⊎ (reaches parts steps j h ≡ true) → (h ≡ j) ⊎ (reaches parts steps j h ≡ true)
         choice (inl same) = inl (eqb-true h j same)
         choice (inr far) = inr far
+
         at : (((h == j) || reaches parts steps j h) ≡ true) ⊎ (list_any (λ g. (h == g) || reaches parts steps g h) hs ≡ true) →
             (list_any (λ g. (h == g) || reaches parts steps g h) hs ≡ true → (g : ℕ) × (is_among g hs ≡ true) × (g < length parts.functions) × ((h ≡ g) ⊎ (reaches parts steps g h ≡ true))) →
             (g : ℕ) × (is_among g (j ∷ hs) ≡ true) × (g < length parts.functions) × ((h ≡ g) ⊎ (reaches parts steps g h ≡ true))

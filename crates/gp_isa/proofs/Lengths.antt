@@ -27,6 +27,6 @@ module _ (parts : Parts) (sizes : List Size) (are : AreSizes sizes (trace parts)
   pub points_are : IsProgram parts → (f : ℕ) → f < length parts.functions → (get_or sizes f none).points ≡ length (trace parts f)
   points_are program f there =
       let whole : length (trace parts f) ≤ longest =
-            ltb-false longest (length (trace parts f))
-            (each_fails (λ f. nat_lt longest (length (trace parts f))) 0 (length parts.functions) program.none_too_long f (omega arith) (omega arith)) in
+      ltb-false longest (length (trace parts f))
+      (each_fails (λ f. nat_lt longest (length (trace parts f))) 0 (length parts.functions) program.none_too_long f (omega arith) (omega arith)) in
       omega (arith, ap (λ (s : Size). s.points) (are.each f))

@@ -60,7 +60,7 @@ AddsMarks-none row = record { each = λ h. or_none (marked row h) }
 pub AddsMarks-more : (old new newer : List Bool) (called more : List ℕ) → AddsMarks old new called → AddsMarks new newer more → AddsMarks old newer (called ++ more)
 AddsMarks-more old new newer called more first second = record {
   each = λ h. second.each h ∙ ap (λ b. b || is_among h more) (first.each h) ∙ or_assoc (marked old h) (is_among h called) (is_among h more) ∙
-    ap (λ b. marked old h || b) (sym (list_any-append (λ g. h == g) called more))
+      ap (λ b. marked old h || b) (sym (list_any-append (λ g. h == g) called more));
 }
 
 pub AddsMarks-one : (row : List Bool) (f : ℕ) → f < length row → AddsMarks row (set row f true) (f ∷ [])

@@ -56,7 +56,7 @@ module _ (parts : Parts) where
       function ≡ get_or functions f function → body ≡ function.body → All (λ h. h < 256) (calls_in 8 body)
   row_fits limits functions f function body same within here is k d below =
       let its : body_of parts f ≡ body =
-            body_of-within parts f function (subst (λ fs. f < length fs) same within) (subst (λ fs. function ≡ get_or fs f function) same here) ∙ sym is in
+      body_of-within parts f function (subst (λ fs. f < length fs) same within) (subst (λ fs. function ≡ get_or fs f function) same here) ∙ sym is in
       let there : All IsThere (calls_in 8 body) = subst (λ b. All IsThere (calls_in 8 b)) its (callees_there limits f) in
       omega (arith, there k d below, limits.functions)
 

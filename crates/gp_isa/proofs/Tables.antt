@@ -49,7 +49,7 @@ pub size_of-function : (parts : Parts) (calls : ℕ → List Point) (functions :
     a ≡ size_of (points_of_body calls i 8 body) → a ≡ size_of (points_of parts calls i)
 size_of-function parts calls functions i function a body same within here its is =
     is ∙ ap (λ b. size_of (points_of_body calls i 8 b)) (its ∙ sym (body_of-within parts i function
-      (subst (λ fs. i < length fs) same within) (subst (λ fs. function ≡ get_or fs i function) same here)))
+    (subst (λ fs. i < length fs) same within) (subst (λ fs. function ≡ get_or fs i function) same here)))
 
 -- calls followed one deeper
 module _ (parts : Parts) (table : List Size) where

@@ -13,10 +13,10 @@ pub loop-function-preserved : goal.loop-function-preserved
 loop-function-preserved c = record {
   len = ap length (c.in_ok-push.ensures).items ∙ omega (arith, c.loop-function.invariant.len, length-append c.loop-function.rows.items (c.call_row.result ∷ []));
   calls = one_row_more (λ k h. is_among h (callees c.args.parts.now k)) c.loop-function.rows.items c.loop-function.function-index c.call_row.result
-    c.loop-function.invariant.len
-    (row_tells c.args.parts.now c.as_slice-function-items.result.now c.loop-function.function-index c.function-item.result c.as_slice.result.now c.call_row.result
-     c.as_slice-function-items.ensures c.loop-function-test.true c.function-item.is c.as_slice.ensures c.call_row.ensures)
-    c.push.new.self.items (c.in_ok-push.ensures).items c.loop-function.invariant.calls
+      c.loop-function.invariant.len
+      (row_tells c.args.parts.now c.as_slice-function-items.result.now c.loop-function.function-index c.function-item.result c.as_slice.result.now c.call_row.result
+      c.as_slice-function-items.ensures c.loop-function-test.true c.function-item.is c.as_slice.ensures c.call_row.ensures)
+      c.push.new.self.items (c.in_ok-push.ensures).items c.loop-function.invariant.calls;
 }
 
 pub returns-clause-calls : goal.returns-clause-calls

@@ -7,5 +7,5 @@ use Rattle.gp_isa.proofs.calls.call_rows.Given as goal
 abbrev pub invariant-loop-function : goal.invariant-loop-function
 invariant-loop-function l = record {
   len : length l.rows.items ≡ l.function-index;
-  calls : (k h : ℕ) → k < l.function-index → marked (get_or l.rows.items k []) h ≡ is_among h (callees l.parts k)
+  calls : (k h : ℕ) → k < l.function-index → marked (get_or l.rows.items k []) h ≡ is_among h (callees l.parts k);
 }

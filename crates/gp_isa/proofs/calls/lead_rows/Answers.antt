@@ -7,7 +7,7 @@ use Rattle.gp_isa.proofs.calls.lead_rows.Goals as goal
 pub loop-through-init : goal.loop-through-init
 loop-through-init c = record {
   len = (c.in_ok-rows.ensures).len;
-  leads = leads_none c.args.parts.now c.in_ok-rows.rows.items (c.in_ok-rows.ensures).calls
+  leads = leads_none c.args.parts.now c.in_ok-rows.rows.items (c.in_ok-rows.ensures).calls;
 }
 
 pub loop-through-preserved : goal.loop-through-preserved
@@ -18,6 +18,6 @@ loop-through-preserved c =
     record {
       len = ap length written ∙ omega (arith, before, c.loop-through.invariant.len);
       leads = subst (AreLeads c.args.parts.now (c.loop-through.through + 1)) (sym written)
-        (leads_more c.args.parts.now c.loop-through.through c.loop-through.rows.items c.go_through.new.rows c.loop-through.invariant.leads
-         (subst (λ (old : List (List Bool)). GoThrough old c.go_through.new.rows c.loop-through.through) c.as_mut_slice.ensures.value c.go_through.ensures))
+          (leads_more c.args.parts.now c.loop-through.through c.loop-through.rows.items c.go_through.new.rows c.loop-through.invariant.leads
+          (subst (λ (old : List (List Bool)). GoThrough old c.go_through.new.rows c.loop-through.through) c.as_mut_slice.ensures.value c.go_through.ensures));
     }

@@ -7,7 +7,7 @@ use Rattle.gp_isa.proofs.calls.round_trip.Goals as goal
 pub returns-then-row-f-clause-place : goal.returns-then-row-f-clause-place
 returns-then-row-f-clause-place c =
     sym (first_from-Some (λ f. marked (get_or c.args.rows.now f []) f) 0 (length c.args.rows.now) c.loop-f.f (omega arith) (omega (arith, c.loop-f-test.true)) c.if-row-f.true
-         (λ j above below. c.loop-f.invariant j below))
+    (λ j above below. c.loop-f.invariant j below))
 
 pub returns-clause-place : goal.returns-clause-place
 returns-clause-place c = sym (first_from-None (λ f. marked (get_or c.args.rows.now f []) f) 0 (length c.args.rows.now)

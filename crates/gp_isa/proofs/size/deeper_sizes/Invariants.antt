@@ -8,5 +8,5 @@ abbrev pub invariant-loop-function : goal.invariant-loop-function
 invariant-loop-function l = record {
   len : length l.deeper.items ≡ l.function-index;
   sizes : (calls : ℕ → List Point) → AreSizes l.sizes calls → (k : ℕ) → k < l.function-index →
-    get_or l.deeper.items k (record { points = 0; frames = 0 }) ≡ size_of (points_of l.parts calls k)
+      get_or l.deeper.items k (record { points = 0; frames = 0 }) ≡ size_of (points_of l.parts calls k);
 }

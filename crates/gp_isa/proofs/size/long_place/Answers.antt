@@ -8,7 +8,7 @@ use Rattle.gp_isa.proofs.size.long_place.Goals as goal
 pub returns-then-size-gt-LONGEST-clause-place : goal.returns-then-size-gt-LONGEST-clause-place
 returns-then-size-gt-LONGEST-clause-place c =
     sym (first_from-Some (λ f. nat_lt longest (get_or c.args.sizes.now f (size_of [])).points) 0 (length c.args.sizes.now) c.loop-f.f
-         (omega arith) (omega (arith, c.loop-f-test.true)) (lt-ltb longest _ c.if-size-gt-LONGEST.true) (λ j above below. c.loop-f.invariant j below))
+    (omega arith) (omega (arith, c.loop-f-test.true)) (lt-ltb longest _ c.if-size-gt-LONGEST.true) (λ j above below. c.loop-f.invariant j below))
 
 pub returns-clause-place : goal.returns-clause-place
 returns-clause-place c =

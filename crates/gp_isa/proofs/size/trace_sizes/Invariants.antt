@@ -7,5 +7,5 @@ use Rattle.gp_isa.proofs.size.trace_sizes.Given as goal
 abbrev pub invariant-loop-round : goal.invariant-loop-round
 invariant-loop-round l = record {
   len : length l.sizes.items ≡ length l.parts.functions;
-  sizes : AreSizes l.sizes.items (trace_within l.parts l._round)
+  sizes : AreSizes l.sizes.items (trace_within l.parts l._round);
 }
