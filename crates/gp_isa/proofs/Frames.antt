@@ -1,10 +1,10 @@
 -- Each call followed deeper adds one frame at most.
-use Rattle.std.proofs.Common.{◌≡◌, ℕ, zero, suc, ◌+◌, ◌≤◌, max, List, [], ◌∷◌, ◌++◌, length, map, replicate, flat_map, refl, sym, ap, ◌∙◌, subst, arith}
+use Rattle.std.proofs.Common.{ℕ, zero, suc, ◌+◌, ◌≤◌, List, [], ◌∷◌, map, replicate, flat_map, arith}
 use Rattle.gp_isa.specs.declared.parts.Parts.{Parts}
 use Rattle.gp_isa.specs.declared.statement.Stmt.{Stmt}
 use Rattle.gp_isa.specs.declared.statement.What.TheOpen.{Work, Call, Loop, Send, Recv, Lock, Unlock, Spawn, Labels}
 use Rattle.gp_isa.specs.Statement.{Action, action_of, line_of}
-use Rattle.gp_isa.specs.Trace.{Point, Local, point_at, called_at, repeated, points_at, points_of_body, body_of, points_of, trace_within, trace}
+use Rattle.gp_isa.specs.Trace.{Point, Local, point_at, called_at, repeated, points_at, points_of_body, body_of, trace_within}
 use Rattle.gp_isa.specs.Size.{most_frames}
 use Rattle.gp_isa.proofs.Sizes.{most_frames-append, most_frames-called, most_frames-repeated, most_frames-work}
 

@@ -9,3 +9,5 @@ pub mod Rows
 pub mod Named
 pub mod Leads
 pub mod Lengths
+pub mod Depth
+pub mod Examples

@@ -1,6 +1,6 @@
 -- What statements call, and the marks that tell it.
-use Rattle.std.proofs.Common.{◌≡◌, ℕ, zero, suc, ◌+◌, ◌-◌, ◌<◌, ◌≤◌, ◌⊎◌, Bool, true, false, ◌||◌, ◌==◌, List, [], ◌∷◌, ◌++◌, length, take, get_or, set, flat_map, refl, sym, ap, ap₂, ◌∙◌, subst, inl, inr, arith, get_or-set_other, eq-eqb, length-append}
-use Rattle.std.specs.List.{All, list_any}
+use Rattle.std.proofs.Common.{◌≡◌, ℕ, zero, suc, ◌+◌, ◌-◌, ◌<◌, ◌≤◌, ◌⊎◌, Bool, true, false, ◌||◌, ◌==◌, List, [], ◌∷◌, ◌++◌, length, take, get_or, set, flat_map, refl, sym, ap, ◌∙◌, subst, inl, inr, arith, get_or-set_other, eq-eqb, length-append}
+use Rattle.std.specs.List.{All}
 use Rattle.std.proofs.lemmas.Bool.{cases_eq, ne_eqb, or_left, or_right}
 use Rattle.std.proofs.lemmas.List.{take_more, flat_map_more, get_or_append_left, get_or-append-add}
 use Rattle.std.proofs.lemmas.Grind.{get_or-set_at}

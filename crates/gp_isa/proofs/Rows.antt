@@ -1,9 +1,6 @@
 -- Rows of marks.
-use Rattle.std.proofs.Common.{◌≡◌, ℕ, zero, suc, ◌+◌, ◌<◌, ◌≤◌, ◌⊎◌, Bool, true, false, ◌||◌, ◌&&◌, List, [], ◌∷◌, ◌++◌, length, get_or, set, replicate, refl, sym, ap, ap₂, ◌∙◌, subst, inl, inr, arith, get_or-set_other}
-use Rattle.std.proofs.lemmas.Bool.{cases_lt, cases_eq}
-use Rattle.std.proofs.lemmas.List.{get_or_past}
-use Rattle.std.proofs.lemmas.Grind.{get_or-set_at}
-use Rattle.gp_isa.specs.Ways.{marked, GoThrough}
+use Rattle.std.proofs.Common.{◌≡◌, ℕ, zero, suc, ◌<◌, ◌≤◌, Bool, false, ◌||◌, ◌&&◌, List, [], get_or, replicate, refl}
+use Rattle.gp_isa.specs.Ways.{marked}
 
 pub unmarked : (n h : ℕ) → marked (replicate n false) h ≡ false
 unmarked zero h = refl

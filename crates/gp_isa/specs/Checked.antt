@@ -1,13 +1,10 @@
 -- What a program has beside parts in their limits: the function `main`, and no empty body.
-use Rattle.std.specs.Prelude.{◌≡◌, ℕ, zero, suc, Bool, true, false, ◌||◌, List, [], ◌∷◌, All, Option, Some, None, IsSome, codes, position}
+use Rattle.std.specs.Prelude.{ℕ, zero, suc, Bool, true, false, ◌||◌, List, [], ◌∷◌, Option, codes, position}
 use Rattle.std.specs.List.{list_any}
 use Rattle.std.specs.Str.{bytes_eq}
-use Rattle.gp_isa.specs.declared.bad.Bad.{Bad}
-use Rattle.gp_isa.specs.declared.bad.Bad.TheVariants.{NoMain, Empty, Recursion, TooLong, Memory}
 use Rattle.gp_isa.specs.declared.parts.Parts.{Parts}
-use Rattle.gp_isa.specs.declared.parts.Function.{Function}
 use Rattle.gp_isa.specs.declared.statement.Stmt.{Stmt}
-use Rattle.gp_isa.specs.declared.statement.What.TheOpen.{Work, Loop}
+use Rattle.gp_isa.specs.declared.statement.What.TheOpen.{Loop}
 use Rattle.gp_isa.specs.Statement.{Action, action_of}
 
 -- the number of the function `main`, where there is one

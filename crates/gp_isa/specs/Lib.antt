@@ -6,3 +6,4 @@ pub mod Calls
 pub mod Size
 pub mod Ways
 pub mod Kept
+pub mod WorkedTraces

@@ -21,6 +21,7 @@ mod bad;
 mod calls;
 mod empty;
 mod frame;
+mod laws;
 mod memory;
 mod parts;
 mod program;
@@ -31,6 +32,7 @@ mod text;
 
 pub use bad::Bad;
 pub use frame::Frame;
+pub use laws::law_trace;
 pub use memory::Memory;
 pub use parts::{
     ChannelDecl, Channels, Function, Functions, LabelSet, LabelSets, MutexDecl, Mutexes, Pair,

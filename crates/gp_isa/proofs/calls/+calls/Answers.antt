@@ -1,9 +1,9 @@
-use Rattle.std.proofs.Common.{rules, ◌≡◌, ◌<◌, ◌-◌, ℕ, take, flat_map, List, [], ◌∷◌, length, sym, ap, ◌∙◌, subst, arith}
+use Rattle.std.proofs.Common.{◌<◌, ◌-◌, flat_map, [], ◌∷◌, length, sym, ap, ◌∙◌, subst, arith}
 use Rattle.std.specs.List.{All}
 use Rattle.std.proofs.lemmas.List.{take_all}
-use Rattle.gp_isa.specs.Calls.{calls_of, calls_in}
+use Rattle.gp_isa.specs.Calls.{calls_in}
 use Rattle.gp_isa.specs.Ways.{calls_inside, AddsMarks}
-use Rattle.gp_isa.proofs.Marks.{all_at, calls_of_statement, calls_in-statements, calls_in-more, calls_inside-some, calls_inside-none, calls_of-call, calls_of-loop, AddsMarks-none, AddsMarks-more, AddsMarks-one}
+use Rattle.gp_isa.proofs.Marks.{all_at, calls_of_statement, calls_in-statements, calls_in-more, calls_inside-some, calls_of-call, calls_of-loop, AddsMarks-none, AddsMarks-more, AddsMarks-one}
 use Rattle.gp_isa.proofs.calls.+calls.Goals as goal
 
 pub mark_statement-bounds-row-f : goal.mark_statement-bounds-row-f

@@ -1,6 +1,6 @@
-use Rattle.std.proofs.Common.{◌≡◌, ℕ, false, ◌||◌, ap, ◌∙◌}
+use Rattle.std.proofs.Common.{◌||◌, ap, ◌∙◌}
 use Rattle.gp_isa.specs.Calls.{calls_in}
-use Rattle.gp_isa.specs.Ways.{is_among, marked}
+use Rattle.gp_isa.specs.Ways.{is_among}
 use Rattle.gp_isa.proofs.Rows.{unmarked}
 use Rattle.gp_isa.proofs.calls.call_row.Goals as goal
 

@@ -1,5 +1,4 @@
 -- The first rows have been sent through.
-use Rattle.std.proofs.Common.{◌≡◌, length, get_or, []}
 use Rattle.gp_isa.proofs.Rows.{GoesThrough}
 use Rattle.gp_isa.proofs.calls.go_through.Given as goal
 

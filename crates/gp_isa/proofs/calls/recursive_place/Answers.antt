@@ -1,4 +1,4 @@
-use Rattle.std.proofs.Common.{◌≡◌, ◌∙◌, Bool, List, [], length, get_or, sym, ap, arith}
+use Rattle.std.proofs.Common.{◌∙◌, Bool, List, [], length, get_or, ap}
 use Rattle.gp_isa.specs.Calls.{first_from}
 use Rattle.gp_isa.specs.Ways.{marked}
 use Rattle.gp_isa.proofs.Leads.{first_recursive_is}

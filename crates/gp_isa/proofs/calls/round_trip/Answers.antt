@@ -1,5 +1,4 @@
-use Rattle.std.proofs.Common.{◌≡◌, ◌<◌, ◌≤◌, ℕ, [], true, false, length, get_or, sym, ap, ◌∙◌, arith}
-use Rattle.std.proofs.lemmas.List.{get_or_default}
+use Rattle.std.proofs.Common.{[], length, get_or, sym, arith}
 use Rattle.gp_isa.specs.Ways.{marked}
 use Rattle.gp_isa.proofs.First.{first_from-Some, first_from-None}
 use Rattle.gp_isa.proofs.calls.round_trip.Goals as goal

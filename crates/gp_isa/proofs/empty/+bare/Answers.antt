@@ -1,4 +1,4 @@
-use Rattle.std.proofs.Common.{sym, ◌∙◌, arith}
+use Rattle.std.proofs.Common.{sym, arith}
 use Rattle.gp_isa.proofs.BareBodies.{lacks_at}
 use Rattle.gp_isa.proofs.empty.+bare.Goals as goal
 

@@ -1,6 +1,6 @@
-use Rattle.std.proofs.Common.{◌≡◌, ℕ, List, ◌∙◌, sym, ap, take, flat_map}
+use Rattle.std.proofs.Common.{◌≡◌, ◌∙◌, sym, ap, flat_map}
 use Rattle.std.proofs.lemmas.List.{take_all}
-use Rattle.gp_isa.specs.Trace.{Point, repeated, points_of_body}
+use Rattle.gp_isa.specs.Trace.{points_of_body}
 use Rattle.gp_isa.specs.Size.{size_of, points_inside}
 use Rattle.gp_isa.proofs.Points.{points_inside-none, points_inside-some, points_of_statement, points_of_body-statements, points_of_body-more, points_at-loop, size_of-one}
 use Rattle.gp_isa.proofs.size.+size.Goals as goal

@@ -1,4 +1,4 @@
-use Rattle.std.proofs.Common.{◌≡◌, ◌<◌, ◌+◌, ℕ, [], true, false, length, get_or, nat_lt, sym, ap, ◌∙◌, arith}
+use Rattle.std.proofs.Common.{[], length, get_or, nat_lt, sym, arith}
 use Rattle.std.proofs.lemmas.Bool.{lt-ltb}
 use Rattle.gp_isa.specs.Calls.{longest}
 use Rattle.gp_isa.specs.Size.{size_of}

@@ -1,7 +1,7 @@
-use Rattle.std.proofs.Common.{◌≡◌, ℕ, suc, ◌+◌, ◌<◌, List, [], refl, sym, ap, ◌∙◌, subst, arith}
+use Rattle.std.proofs.Common.{◌≡◌, suc, ◌+◌, ◌<◌, List, [], refl, sym, subst, arith}
 use Rattle.std.specs.List.{All}
 use Rattle.gp_isa.specs.declared.size.Size.{Size}
-use Rattle.gp_isa.specs.Trace.{Point, trace_within}
+use Rattle.gp_isa.specs.Trace.{trace_within}
 use Rattle.gp_isa.specs.Size.{AreSizes}
 use Rattle.gp_isa.proofs.Tables.{first_round, next_round, last_round, few_frames}
 use Rattle.gp_isa.proofs.size.trace_sizes.Goals as goal
