@@ -1,7 +1,10 @@
 -- Parts that are `main` with counts of work: they lie in the limits, and `check` finds nothing wrong.
-use Rattle.std.proofs.Common.{◌≡◌, ℕ, ◌+◌, ◌≤◌, ◌++◌, List, [], ◌∷◌, length, refl, sym, subst, ◌∙◌, arith, Option, Some, None, false, lit≤}
-use Rattle.std.specs.Prelude.{All, position}
-use Rattle.std.specs.List.{AllByRecursion, IsDistinct}
+use Rattle.std.proofs.Common.{◌≡◌, ℕ, ◌+◌, ◌≤◌, ◌++◌, List, [], ◌∷◌, length, refl, sym, subst, ◌∙◌, arith, Option, Some, None, false, lit≤, zero, suc, ◌*◌, ◌^◌, Bool, ◌||◌, ap, length-append, slice_get, nat_lt}
+use Rattle.std.specs.Prelude.{All}
+use Rattle.std.specs.List.{AllByRecursion, IsDistinct, list_any}
+use Rattle.std.proofs.lemmas.Bool.{le-ltb}
+use Rattle.std.proofs.lemmas.List.{length-replicate}
+use Rattle.std.specs.Prelude.{◌==◌}
 use Rattle.std.proofs.lemmas.List.Elements.{All-from_recursion, All-cons, All-nil, All-same}
 use Rattle.gp_isa.specs.declared.bad.Bad.{Bad}
 use Rattle.gp_isa.specs.declared.bad.Bad.TheVariants.{NoMain, Empty, Recursion, TooLong, Memory}
@@ -13,8 +16,9 @@ use Rattle.gp_isa.specs.declared.statement.Stmt.{Stmt}
 use Rattle.gp_isa.specs.declared.statement.What.TheOpen.{Work}
 use Rattle.gp_isa.specs.Statement.{Action, action_of, line_of}
 use Rattle.gp_isa.specs.Limits.{AreNames, ArePairs, IsAction, AreStatements, AreInLimits}
-use Rattle.gp_isa.specs.Checked.{IsWork, AreWork, IsFault, is_nil, main_of, first_empty}
-use Rattle.gp_isa.proofs.Work.{first_empty-work}
+use Rattle.gp_isa.specs.Checked.{main_of, first_empty, loop_lacks, lacks_statement}
+use Rattle.gp_isa.specs.Calls.{IsCause, calls_of, calls_in, callees, reaches, is_recursive, first_from, first_recursive, longest, first_too_long}
+use Rattle.gp_isa.specs.Trace.{Point, points_at, points_of_body, points_of, body_of, trace_within, trace}
 use Rattle.gp_top.specs.File.{IsCount, AreWorks, AreParts}
 use Rattle.gp_top.specs.File.{MainInLimits}
 
@@ -28,19 +32,11 @@ works_push line (t ∷ body) (m ∷ counts) s n w l a =
 is_action : (parts : Parts) (Within : List Stmt → Type 0) (a : Action) (n : ℕ) → a ≡ Work n → 1 ≤ n → IsAction parts Within a
 is_action parts Within a n e low = subst (IsAction parts Within) (sym e) low
 
-is_work : (a : Action) (n : ℕ) → a ≡ Work n → IsWork a
-is_work a n e = subst IsWork (sym e) tt
-
 actions : (parts : Parts) (Within : List Stmt → Type 0) (line : ℕ) (body : List Stmt) (counts : List ℕ) → AreWorks line body counts → AllByRecursion IsCount counts → AllByRecursion (λ s. IsAction parts Within (action_of s)) body
 actions parts Within line [] counts w each = tt
 actions parts Within line (s ∷ body) [] w each = absurd w
 actions parts Within line (s ∷ body) (n ∷ counts) w each =
     (is_action parts Within (action_of s) n w.1 each.0.0, actions parts Within (line + 1) body counts w.2 each.1)
-
-works : (line : ℕ) (body : List Stmt) (counts : List ℕ) → AreWorks line body counts → AllByRecursion (λ s. IsWork (action_of s)) body
-works line [] counts w = tt
-works line (s ∷ body) [] w = absurd w
-works line (s ∷ body) (n ∷ counts) w = (is_work (action_of s) n w.1, works (line + 1) body counts w.2)
 
 one_name : (name : List ℕ) → length name ≤ 64 → AreNames (name ∷ [])
 unfolding IsDistinct
@@ -77,35 +73,95 @@ in_limits parts m =
       pairs = none_of (λ (l : LabelSet). ArePairs l.pairs) parts.labels p.labels;
     }
 
-pub all_work : (parts : Parts) → MainInLimits parts → AreWork parts
-all_work parts m =
-    let p = m.parts_are in
-    only_function (λ f. All (λ s. IsWork (action_of s)) f.body) parts p.function p.functions
-    (All-from_recursion (λ s. IsWork (action_of s)) p.function.body (works 2 p.function.body m.counts p.main.body))
-
 pub has_main : (parts : Parts) (counts : List ℕ) → AreParts parts counts → main_of parts ≡ Some 0
 has_main parts counts p = rw (p.functions, p.main.name) refl
 
-not_bare : (body : List Stmt) (counts : List ℕ) → AreWorks 2 body counts → 1 ≤ length counts → is_nil body ≡ false
-not_bare [] [] w some = absurd (omega (arith, some))
-not_bare [] (n ∷ counts) w some = absurd w
-not_bare (s ∷ body) counts w some = refl
+work_lacks : (lacks : List Stmt → Bool) (a : Action) (n : ℕ) → a ≡ Work n → loop_lacks lacks a ≡ false
+work_lacks lacks a n e = rw e refl
+
+none_lacks : (lacks : List Stmt → Bool) (line : ℕ) (body : List Stmt) (counts : List ℕ) → AreWorks line body counts → list_any (λ s. loop_lacks lacks (action_of s)) body ≡ false
+none_lacks lacks line [] counts w = refl
+none_lacks lacks line (s ∷ body) [] w = absurd w
+none_lacks lacks line (s ∷ body) (n ∷ counts) w = rw (work_lacks lacks (action_of s) n w.1, none_lacks lacks (line + 1) body counts w.2) refl
+
+not_bare : (line : ℕ) (body : List Stmt) (counts : List ℕ) → AreWorks line body counts → 1 ≤ length counts → lacks_statement 8 body ≡ false
+not_bare line [] [] w some = absurd (omega (arith, some))
+not_bare line [] (n ∷ counts) w some = absurd w
+not_bare line (s ∷ body) counts w some = none_lacks (lacks_statement 7) line (s ∷ body) counts w
 
 none_empty : (parts : Parts) → MainInLimits parts → first_empty parts ≡ None
 none_empty parts m =
     let p = m.parts_are in
-    let bare : position (λ f. is_nil f.body) parts.functions ≡ None = rw (p.functions, not_bare p.function.body m.counts p.main.body m.some) refl in
-    sym (first_empty-work parts (all_work parts m)) ∙ bare
+    rw (p.functions, not_bare 2 p.function.body m.counts p.main.body m.some) refl
+
+-- the body of a function that is there
+pub body_there : (parts : Parts) (f : ℕ) (g : Function) → slice_get parts.functions f ≡ Some g → body_of parts f ≡ g.body
+body_there parts f g got = rw (got, body_of) refl
+
+main_body : (parts : Parts) (m : MainInLimits parts) → body_of parts 0 ≡ m.parts_are.function.body
+main_body parts m = body_there parts 0 m.parts_are.function (rw m.parts_are.functions refl)
+
+work_calls : (inner : List Stmt → List ℕ) (a : Action) (n : ℕ) → a ≡ Work n → calls_of inner a ≡ []
+work_calls inner a n e = rw e refl
+
+none_called : (line : ℕ) (body : List Stmt) (counts : List ℕ) → AreWorks line body counts → calls_in 8 body ≡ []
+none_called line [] counts w = refl
+none_called line (s ∷ body) [] w = absurd w
+none_called line (s ∷ body) (n ∷ counts) w = rw (work_calls (calls_in 7) (action_of s) n w.1) (none_called (line + 1) body counts w.2)
+
+no_callees : (parts : Parts) → MainInLimits parts → callees parts 0 ≡ []
+no_callees parts m = ap (calls_in 8) (main_body parts m) ∙ none_called 2 m.parts_are.function.body m.counts m.parts_are.main.body
+
+reaches_none : (parts : Parts) (steps f h : ℕ) → callees parts f ≡ [] → reaches parts steps f h ≡ false
+unfolding reaches
+reaches_none parts zero f h e = ap (λ (l : List ℕ). list_any (λ g. h == g) l) e
+reaches_none parts (suc steps) f h e = ap (λ (l : List ℕ). list_any (λ g. (h == g) || reaches parts steps g h) l) e
+
+-- where there is one function, the first that passes a test is that one or none
+first_of_one : (test : ℕ → Bool) (n : ℕ) → n ≡ 1 → test 0 ≡ false → first_from test 0 n ≡ None
+first_of_one test n one fails = rw (one, fails, first_from) refl
+
+one_function : (parts : Parts) → MainInLimits parts → length parts.functions ≡ 1
+one_function parts m = rw m.parts_are.functions refl
+
+none_recursive : (parts : Parts) → MainInLimits parts → first_recursive parts ≡ None
+none_recursive parts m = first_of_one (is_recursive parts) (length parts.functions) (one_function parts m) (reaches_none parts (length parts.functions) 0 0 (no_callees parts m))
+
+work_points : (calls : ℕ → List Point) (inner : List Stmt → List Point) (f line n : ℕ) (a : Action) → a ≡ Work n → length (points_at calls inner f line a) ≡ n
+work_points calls inner f line n a e = rw e (length-replicate n _)
+
+few_points : (calls : ℕ → List Point) (f line : ℕ) (body : List Stmt) (counts : List ℕ) → AreWorks line body counts → AllByRecursion IsCount counts → length (points_of_body calls f 8 body) ≤ 2 ^ 32 * length counts
+few_points calls f line [] counts w each = omega arith
+few_points calls f line (s ∷ body) [] w each = absurd w
+few_points calls f line (s ∷ body) (n ∷ counts) w each =
+    omega (arith, each.0.1, few_points calls f (line + 1) body counts w.2 each.1, work_points calls (points_of_body calls f 7) f (line_of s) n (action_of s) w.1, length-append (points_at calls (points_of_body calls f 7) f (line_of s) (action_of s)) (points_of_body calls f 8 body))
+
+trace_few : (parts : Parts) (depth f most : ℕ) → ((calls : ℕ → List Point) → length (points_of parts calls f) ≤ most) → length (trace_within parts depth f) ≤ most
+unfolding trace_within
+trace_few parts zero f most h = h (λ _. [])
+trace_few parts (suc depth) f most h = h (trace_within parts depth)
+
+main_few : (parts : Parts) → MainInLimits parts → length (trace parts 0) ≤ 2 ^ 40
+unfolding trace
+main_few parts m =
+    let p = m.parts_are in
+    trace_few parts (length parts.functions) 0 (2 ^ 40) (λ calls.
+    let points = few_points calls 0 2 p.function.body m.counts p.main.body m.each in
+    let same : length (points_of parts calls 0) ≡ length (points_of_body calls 0 8 p.function.body) = ap (λ (b : List Stmt). length (points_of_body calls 0 8 b)) (main_body parts m) in
+    omega (arith, points, same, m.few))
+
+none_too_long : (parts : Parts) → MainInLimits parts → first_too_long parts ≡ None
+none_too_long parts m =
+    first_of_one (λ f. nat_lt longest (length (trace parts f))) (length parts.functions) (one_function parts m) (le-ltb longest (length (trace parts 0)) (main_few parts m))
 
 some_none : (n : ℕ) (o : Option ℕ) → o ≡ Some n → o ≡ None → ⊥
 some_none n None e f = cc
 some_none n (Some m) e f = cc
 
-pub only_memory : (parts : Parts) (bad : Bad) → MainInLimits parts → IsFault parts bad → bad ≡ Memory
-only_memory parts NoMain m fault =
-    absurd (some_none 0 (main_of parts) (has_main parts m.counts m.parts_are) fault)
-only_memory parts (Empty f) m fault =
-    absurd (some_none f (first_empty parts) fault.1 (none_empty parts m))
-only_memory parts (Recursion f) m fault = absurd fault
-only_memory parts (TooLong f) m fault = absurd fault
-only_memory parts Memory m fault = refl
+-- the one cause that is left
+pub only_memory : (parts : Parts) (bad : Bad) → MainInLimits parts → IsCause parts bad → bad ≡ Memory
+only_memory parts NoMain m cause = absurd (some_none 0 (main_of parts) (has_main parts m.counts m.parts_are) cause)
+only_memory parts (Empty f) m cause = absurd (some_none f (first_empty parts) cause.1 (none_empty parts m))
+only_memory parts (Recursion f) m cause = absurd (some_none f (first_recursive parts) cause.2 (none_recursive parts m))
+only_memory parts (TooLong f) m cause = absurd (some_none f (first_too_long parts) cause.3 (none_too_long parts m))
+only_memory parts Memory m cause = refl

@@ -8,7 +8,7 @@ use Rattle.gp_isa.specs.declared.parts.Function.{Function}
 use Rattle.gp_isa.specs.declared.statement.Stmt.{Stmt}
 use Rattle.gp_isa.specs.declared.statement.What.TheOpen.{Work}
 use Rattle.gp_isa.specs.Statement.{Action, action_of, line_of}
-use Rattle.gp_isa.specs.Trace.{Point, points_at, points_of_body, points_of, body_of, trace_within, trace}
+use Rattle.gp_isa.specs.Trace.{Point, points_at, points_of_body, points_of, trace_within, trace}
 use Rattle.gp_isa.specs.Checked.{main_of}
 use Rattle.gp_isa.specs.declared.memory.Memory.{Memory}
 use Rattle.gp_wire.specs.declared.profile.Profile.{Profile}
@@ -17,7 +17,7 @@ use Rattle.gp_top.specs.File.{MainInLimits}
 use Rattle.gp_stack.specs.Goroutine.{next_point, stack_of, labels_of, frame_limit}
 use Rattle.gp_top.specs.Start.{main_points, start_record}
 use Rattle.gp_top.specs.Expected.{one_sample, IsProfileOf}
-use Rattle.gp_top.proofs.Main.{has_main}
+use Rattle.gp_top.proofs.Main.{has_main, body_there}
 
 -- the stack of the first of some points
 abbrev first_stack : List Point → List Frame
@@ -50,10 +50,6 @@ body_first calls f line [] counts first w each e = absurd cc
 body_first calls f line (s ∷ body) [] first w each e = absurd w
 body_first calls f line (s ∷ body) (n ∷ counts) first w each e =
     work_first calls (points_of_body calls f 7) f (line_of s) n (action_of s) (points_of_body calls f 8 body) w.1 each.0.0 ∙ ap (λ (t : Stmt). frame_at f (line_of t) ∷ []) (same_first s first body e)
-
--- the trace of a function that is there begins as its body does
-body_there : (parts : Parts) (f : ℕ) (g : Function) → slice_get parts.functions f ≡ Some g → body_of parts f ≡ g.body
-body_there parts f g got = rw (got, body_of) refl
 
 trace_first : (parts : Parts) (depth f : ℕ) (stack : List Frame) → ((calls : ℕ → List Point) → first_stack (points_of parts calls f) ≡ stack) → first_stack (trace_within parts depth f) ≡ stack
 unfolding trace_within

@@ -1,5 +1,4 @@
 ghost use Rattle.std.specs.Prelude.{◌≡◌, ◌≤◌, length, IfOk, IsErrOf, All};
-ghost use Rattle.gp_isa.specs.Checked.{AreWork};
 ghost use Rattle.gp_top.specs.File.{MainInLimits, IsCount, IsMain, AreWorks, AreParts, Spells, SpellsNone};
 
 use crate::file::{FileError, behind_header, counts};
