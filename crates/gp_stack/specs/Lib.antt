@@ -1,1 +1,4 @@
 pub mod Goroutine
+pub mod Level
+pub mod Place
+pub mod Ahead

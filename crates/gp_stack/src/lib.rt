@@ -6,6 +6,9 @@
 //! `Record` a goroutine.
 #![tactic(auto)]
 
+mod level;
+mod place;
+mod statement;
 mod record;
 
 pub use gp_isa::Frame;
