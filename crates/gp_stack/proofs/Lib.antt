@@ -1,3 +1,5 @@
-pub mod Cost
+pub mod Costs
 pub mod Levels
 pub mod Moves
+pub mod Points
+pub mod Settle

@@ -75,7 +75,7 @@ left_skip parts level outer a d none = sym (left_next parts level outer a d ∙ 
 abbrev pub loop_level : Level → ℕ → ℕ → List Stmt → Level
 loop_level level k n body = record { at = length body; turns = n; calls = level.calls; function = level.function; loops = k }
 
-body_of_loop : (parts : Parts) (level new : Level) (outer : List Level) (n end : ℕ) (body : List Stmt) → is_base new ≡ false → Does (body_at parts level outer) level.at (Loop n body end) → body_at parts new (moved level (level.at + 1) ∷ outer) ≡ body
+pub body_of_loop : (parts : Parts) (level new : Level) (outer : List Level) (n end : ℕ) (body : List Stmt) → is_base new ≡ false → Does (body_at parts level outer) level.at (Loop n body end) → body_at parts new (moved level (level.at + 1) ∷ outer) ≡ body
 unfolding body_at
 body_of_loop parts level new outer n end body inner d =
     let same : level.at + 1 - 1 ≡ level.at = omega arith in
@@ -110,7 +110,7 @@ unfolding trace_within
 trace_call parts zero h = refl
 trace_call parts (suc k) h = refl
 
-body_of_call : (parts : Parts) (level : Level) (outer : List Level) (k h : ℕ) → body_at parts (call_level level k h) outer ≡ body_of parts h
+pub body_of_call : (parts : Parts) (level : Level) (outer : List Level) (k h : ℕ) → body_at parts (call_level level k h) outer ≡ body_of parts h
 unfolding body_at
 body_of_call parts level [] k h = refl
 body_of_call parts level (o ∷ outer) k h = refl
@@ -172,7 +172,7 @@ here_turn : (parts : Parts) (level : Level) (body : List Stmt) (n : ℕ) → lef
 unfolding left_here
 here_turn parts level body n = refl
 
-body_turned : (parts : Parts) (level : Level) (n : ℕ) (outer : List Level) → body_at parts (record level { at = 0; turns = n }) outer ≡ body_at parts level outer
+pub body_turned : (parts : Parts) (level : Level) (n : ℕ) (outer : List Level) → body_at parts (record level { at = 0; turns = n }) outer ≡ body_at parts level outer
 unfolding body_at
 body_turned parts level n [] = refl
 body_turned parts level n (o ∷ outer) = refl

@@ -1,5 +1,5 @@
 -- What stands at a place of a body of statements.
-use Rattle.std.specs.Prelude.{◌≡◌, ◌≤◌, ℕ, List, Option, Some, length, slice_get}
+use Rattle.std.specs.Prelude.{◌≡◌, ◌+◌, ◌^◌, ◌<◌, ◌≤◌, ℕ, List, Option, Some, length, slice_get}
 use Rattle.gp_isa.specs.declared.statement.Stmt.{Stmt}
 use Rattle.gp_isa.specs.declared.statement.What.TheOpen.{Work, Call, Loop, Send, Recv, Lock, Unlock, Spawn, Labels}
 use Rattle.gp_isa.specs.Statement.{Action, action_of}
@@ -30,3 +30,12 @@ IsAhead body at (ahead.Labels s) = Does body at (Labels s)
 IsAhead body at (ahead.Loop n inner) = (end : ℕ) × Does body at (Loop n inner.now end)
 IsAhead body at (ahead.Call f) = Does body at (Call f)
 IsAhead body at (ahead.Shared o) = Does body at (action_of_operation o)
+
+-- where a statement stands, the place behind it is a number of the machine
+abbrev pub HasNext : ℕ → Ahead → Type 0
+HasNext at ahead.End = Unit {0}
+HasNext at (ahead.Work n) = at + 1 < 2 ^ 64
+HasNext at (ahead.Labels s) = at + 1 < 2 ^ 64
+HasNext at (ahead.Loop n inner) = at + 1 < 2 ^ 64
+HasNext at (ahead.Call f) = at + 1 < 2 ^ 64
+HasNext at (ahead.Shared o) = at + 1 < 2 ^ 64

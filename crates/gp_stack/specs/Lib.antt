@@ -2,3 +2,5 @@ pub mod Goroutine
 pub mod Level
 pub mod Place
 pub mod Ahead
+pub mod Cost
+pub mod Body

@@ -26,8 +26,21 @@ abbrev pub left_behind : List Level → List Level
 left_behind [] = []
 left_behind (level ∷ outer) = turned level.turns level outer
 
+-- A loop of n turns over a body of so many statements is begun at its end, where loops may still be entered; else
+-- it is passed by.
+abbrev pub looped : ℕ → ℕ → ℕ → Level → List Level → List Level
+looped zero n len level outer = stepped (level ∷ outer)
+looped (suc loops) n len level outer =
+    record { at = len; turns = n; calls = level.calls; function = level.function; loops = loops } ∷ stepped (level ∷ outer)
+
+-- a function called is begun, where calls are still followed; else it is passed by
+abbrev pub called : ℕ → ℕ → Level → List Level → List Level
+called zero f level outer = stepped (level ∷ outer)
+called (suc calls) f level outer =
+    record { at = 0; turns = 0; calls = calls; function = f; loops = 8 } ∷ stepped (level ∷ outer)
+
 -- how many levels stand around another one at most
-unfoldable pub room : Parts → ℕ
+abbrev pub room : Parts → ℕ
 room parts = 9 * length parts.functions + 8
 
 -- Each level leaves room for those that may still be entered from it.

@@ -6,10 +6,12 @@
 //! `Record` a goroutine.
 #![tactic(auto)]
 
+mod body;
 mod level;
 mod place;
 mod statement;
 mod record;
 
+pub use body::Body;
 pub use gp_isa::Frame;
 pub use record::{Profiles, Record, Records, Stack};

@@ -1,6 +1,6 @@
 ghost use Rattle.std.specs.Prelude.{◌≡◌, ◌<◌, length, slice_get, OnSome};
 ghost use Rattle.std.specs.Option.{option_copied};
-ghost use Rattle.gp_stack.specs.Ahead.{IsAhead};
+ghost use Rattle.gp_stack.specs.Ahead.{IsAhead, HasNext};
 
 use gp_isa::{Stmt, What};
 
@@ -41,7 +41,8 @@ pub(crate) fn statement(body: &[Stmt], at: usize) -> Option<&Stmt>
 
 /// What statement `at` of a body does.
 pub(crate) fn statement_at(body: &[Stmt], at: usize) -> Ahead<'_>
-    ensures { IsAhead body.now at result }
+    ensures ahead { IsAhead body.now at result }
+    ensures within { HasNext at result }
 {
     match statement(body, at) {
         None => Ahead::End,

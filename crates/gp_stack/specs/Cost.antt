@@ -1,5 +1,5 @@
 -- How many statements and turns are still crossed: what falls with each move that passes no point.
-use Rattle.std.proofs.Common.{◌≡◌, ◌<◌, ◌+◌, ◌*◌, ℕ, zero, suc, List, [], ◌∷◌, drop}
+use Rattle.std.specs.Prelude.{◌+◌, ◌*◌, ℕ, zero, suc, List, [], ◌∷◌, drop}
 use Rattle.gp_isa.specs.declared.parts.Parts.{Parts}
 use Rattle.gp_isa.specs.declared.statement.Stmt.{Stmt}
 use Rattle.gp_isa.specs.declared.statement.What.TheOpen.{Call, Loop}
