@@ -3,3 +3,4 @@ pub mod Levels
 pub mod Moves
 pub mod Points
 pub mod Settle
+pub mod Stands

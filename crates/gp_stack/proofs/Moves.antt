@@ -1,5 +1,5 @@
 -- Moves that pass no point leave the points that are left as they are.
-use Rattle.std.proofs.Common.{◌≡◌, ◌<◌, ◌≤◌, ◌+◌, ◌-◌, ◌*◌, ◌==◌, ℕ, zero, suc, Bool, true, false, cond, List, [], ◌∷◌, ◌++◌, Option, Some, None, length, drop, map, refl, ap, sym, ◌∙◌, arith, add-one}
+use Rattle.std.proofs.Common.{◌≡◌, ◌<◌, ◌≤◌, ◌+◌, ◌-◌, ◌*◌, ◌==◌, ℕ, zero, suc, Bool, true, false, cond, List, [], ◌∷◌, ◌++◌, Option, Some, None, length, drop, map, reverse, refl, ap, sym, ◌∙◌, arith, add-one}
 use Rattle.std.proofs.lemmas.List.{append_assoc, append-nil, map-append, drop_all}
 use Rattle.std.specs.Prelude.{slice_get}
 use Rattle.gp_isa.specs.declared.frame.Frame.{Frame}
@@ -8,7 +8,7 @@ use Rattle.gp_isa.specs.declared.parts.Function.{Function}
 use Rattle.gp_isa.specs.declared.statement.Stmt.{Stmt}
 use Rattle.gp_isa.specs.declared.statement.What.TheOpen.{Work, Call, Loop}
 use Rattle.gp_isa.specs.Statement.{Action, action_of, line_of}
-use Rattle.gp_isa.specs.Trace.{Point, called_at, repeated, points_at, points_of_body, points_of, body_of, trace_within}
+use Rattle.gp_isa.specs.Trace.{Point, called_at, repeated, points_at, points_of_body, points_of, body_of, trace_within, trace}
 use Rattle.gp_stack.specs.declared.level.Level.{Level}
 use Rattle.gp_stack.specs.Level.{is_base, body_inside, line_at, body_at, frame_of, callers, called_from, points_of_call, points_of_statements, left_here, left}
 use Rattle.gp_stack.specs.Place.{stepped, turned}
@@ -185,3 +185,24 @@ left_turned parts level outer (suc n) past turns =
     let again : left_here parts level (body_at parts level outer) ≡ repeated (suc n) points =
         here_end parts level (body_at parts level outer) past ∙ ap (λ m. repeated m points) turns in
     left_cons parts (record level { at = 0; turns = n }) outer ∙ (rw (body_turned parts level n outer, here_turn parts level (body_at parts level outer) n) (sym (left_cons parts level outer ∙ (rw again refl))))
+
+map_no_callers : (points : List Point) → map (called_from []) points ≡ points
+map_no_callers [] = refl
+map_no_callers (p ∷ points) = rw (append-nil p.stack, map_no_callers points) refl
+
+no_callers : (parts : Parts) (called : Bool) → callers parts called [] ≡ []
+unfolding callers
+no_callers parts called = refl
+
+left_none : (parts : Parts) → left parts [] ≡ []
+unfolding left
+left_none parts = refl
+
+-- a function is begun with its whole trace left
+pub left_begin : (parts : Parts) (f calls : ℕ) (outer : List Level) → calls ≡ length parts.functions → outer ≡ [] → left parts (record { at = 0; turns = 0; calls = calls; function = f; loops = 8 } ∷ reverse outer) ≡ trace parts f
+unfolding trace
+left_begin parts f calls outer all none =
+    let level : Level = record { at = 0; turns = 0; calls = calls; function = f; loops = 8 } in
+    let begun : left parts (level ∷ []) ≡ trace_within parts calls f =
+        left_cons parts level [] ∙ (rw (left_none parts, no_callers parts (is_base level), body_of_call parts level [] calls f, call_here parts level calls f) (append-nil (map (called_from []) (trace_within parts calls f)) ∙ map_no_callers (trace_within parts calls f))) in
+    ap (λ ls. left parts (level ∷ reverse ls)) none ∙ (begun ∙ ap (λ depth. trace_within parts depth f) all)

@@ -26,7 +26,8 @@ pub struct Body {
 
 /// How many calls are followed at most inside each other.
 fn most_calls(program: &Program) -> u16
-    ensures { result ≡ length program.now.functions }
+    ensures calls { result ≡ length program.now.functions }
+    ensures few { result ≤ 256 }
 {
     program.parts().functions.len() as u16
 }
@@ -56,12 +57,13 @@ impl Body {
         ensures stands { StandsIn program.now self.new }
         ensures progress { progress_of self.new ≡ record { start = start; set = set; count = 0 } }
     {
+        let calls = most_calls(program);
         self.start = start;
         self.set = set;
         self.labels = set;
         self.count = 0;
         self.passed = 0;
-        self.place.begin(program, start as u8, most_calls(program));
+        self.place.begin(program, start as u8, calls);
     }
 
     /// How many points were passed.
