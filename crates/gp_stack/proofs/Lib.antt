@@ -4,3 +4,4 @@ pub mod Moves
 pub mod Points
 pub mod Settle
 pub mod Stands
+pub mod Climbing

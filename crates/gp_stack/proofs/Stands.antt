@@ -13,8 +13,8 @@ use Rattle.gp_stack.specs.declared.level.Level.{Level}
 use Rattle.gp_stack.specs.declared.place.Place.{Place}
 use Rattle.gp_stack.specs.declared.statement.Operation.{Operation}
 use Rattle.gp_stack.specs.declared.statement.Operation.TheVariants as operation
-use Rattle.gp_stack.specs.Goroutine.{no_point, next_point, is_ended, set_after_all, labels_of, local_ahead}
-use Rattle.gp_stack.specs.Level.{is_base, body_at, callers, called_from, left}
+use Rattle.gp_stack.specs.Goroutine.{no_point, next_point, stack_of, is_ended, set_after_all, labels_of, local_ahead}
+use Rattle.gp_stack.specs.Level.{is_base, body_at, line_at, callers, called_from, leaf_of, left}
 use Rattle.gp_stack.specs.Place.{levels, stepped, IsIn, IsSettled, AtPoint, AtEnd, IsPoint}
 use Rattle.gp_stack.specs.Ahead.{Does, action_of_operation}
 use Rattle.gp_stack.specs.Body.{StandsIn, IsPartOf, IsAtShared}
@@ -204,6 +204,10 @@ not_ended : (points : List Point) (count : ℕ) → is_ended points count ≡ fa
 unfolding is_ended
 not_ended points count e = not_le (length points) count e
 
+split_first : (k : ℕ) (p : Point) (rest : List Point) → 0 < k → replicate k p ++ rest ≡ p ∷ (replicate (k - 1) p ++ rest)
+split_first zero p rest some = absurd (omega arith)
+split_first (suc k) p rest some = let same : suc k - 1 ≡ k = omega arith in rw same refl
+
 first_replicate : (k : ℕ) (p : Point) (rest : List Point) → 0 < k → get_or (replicate k p ++ rest) 0 no_point ≡ p
 first_replicate zero p rest some = absurd (omega arith)
 first_replicate (suc k) p rest some = refl
@@ -251,3 +255,57 @@ pub ahead_moved : (parts : Parts) (old new : Body) (n k : ℕ) → new.start ≡
 ahead_moved parts old new n k start count few ahead =
     let more : local_ahead (trace parts old.start) (old.count + k) + k ≡ local_ahead (trace parts old.start) old.count = local_ahead_more (trace parts old.start) old.count k (omega arith) in
     rw (start, count) (omega arith)
+
+-- the frames of the next point
+abbrev pub frames_of : Parts → Place → List Frame
+frames_of parts place = leaf_of parts place.top (reverse place.outer.items) ∷ callers parts (is_base place.top) (reverse place.outer.items)
+
+leaf_is : (parts : Parts) (level : Level) (outer : List Level) (a : Action) (d : Does (body_at parts level outer) level.at a) → leaf_of parts level outer ≡ record { function = level.function; line = line_of d.statement }
+unfolding leaf_of
+leaf_is parts level outer a d = rw (line_at, d.stands) refl
+
+-- a point that stands at the statement
+pub record IsFirst (parts : Parts) (level : Level) (outer : List Level) (line : ℕ) (points : List Point) : Type 0 where
+  pub point : Point
+  pub others : List Point
+  pub first : points ≡ point ∷ others
+  pub stack : point.stack ≡ record { function = level.function; line = line } ∷ callers parts (is_base level) outer
+
+first_point : (parts : Parts) (level : Level) (outer : List Level) (line passed : ℕ) (rest : List Point) (a : Action) → IsPoint a → IsPartOf passed a → IsFirst parts level outer line (drop passed (map (called_from (callers parts (is_base level) outer)) (added parts level line a) ++ rest))
+first_point parts level outer line passed rest (Work n) p few =
+    record {
+      point = called_from (callers parts (is_base level) outer) (point_at level.function line Local);
+      others = replicate (n - passed - 1) (called_from (callers parts (is_base level) outer) (point_at level.function line Local)) ++ rest;
+      first = ap (λ xs. drop passed (xs ++ rest)) (map_replicate (called_from (callers parts (is_base level) outer)) n (point_at level.function line Local)) ∙ (work_left n passed (called_from (callers parts (is_base level) outer) (point_at level.function line Local)) rest (omega arith) ∙ split_first (n - passed) (called_from (callers parts (is_base level) outer) (point_at level.function line Local)) rest (omega arith));
+      stack = refl
+    }
+first_point parts level outer line passed rest (Call f) p few = absurd p
+first_point parts level outer line passed rest (Loop n body end) p few = absurd p
+first_point parts level outer line passed rest (Send c) p few = rw few (record { point = _; others = rest; first = refl; stack = refl })
+first_point parts level outer line passed rest (Recv c) p few = rw few (record { point = _; others = rest; first = refl; stack = refl })
+first_point parts level outer line passed rest (Lock m) p few = rw few (record { point = _; others = rest; first = refl; stack = refl })
+first_point parts level outer line passed rest (Unlock m) p few = rw few (record { point = _; others = rest; first = refl; stack = refl })
+first_point parts level outer line passed rest (Spawn f) p few = rw few (record { point = _; others = rest; first = refl; stack = refl })
+first_point parts level outer line passed rest (Labels s) p few = rw few (record { point = _; others = rest; first = refl; stack = refl })
+
+stack_at : (parts : Parts) (body : Body) → StandsIn parts body → is_ended (trace parts body.start) body.count ≡ false → IsSettled parts body.place.top (reverse body.place.outer.items) → frames_of parts body.place ≡ (next_point (trace parts body.start) body.count).stack
+stack_at parts body stands going (AtPoint a d p) =
+    let level : Level = body.place.top in
+    let outer : List Level = reverse body.place.outer.items in
+    let first : IsFirst parts level outer (line_of d.statement) (drop body.passed (map (called_from (callers parts (is_base level) outer)) (added parts level (line_of d.statement) a) ++ left parts (stepped (level ∷ outer)))) =
+        first_point parts level outer (line_of d.statement) body.passed (left parts (stepped (level ∷ outer))) a p (stands.part a d) in
+    let next : drop body.count (trace parts body.start) ≡ first.point ∷ first.others =
+        sym stands.left ∙ (ap (drop body.passed) (left_next parts level outer a d) ∙ first.first) in
+    let head : next_point (trace parts body.start) body.count ≡ first.point =
+        next_is (trace parts body.start) body.count ∙ ap (λ xs. get_or xs 0 no_point) next in
+    ap (λ leaf. leaf ∷ callers parts (is_base level) outer) (leaf_is parts level outer a d) ∙ (sym first.stack ∙ ap (λ q. q.stack) (sym head))
+stack_at parts body stands going (AtEnd past turns none) =
+    let over : drop body.count (trace parts body.start) ≡ [] = over_ahead parts body past stands in
+    let empty : length (drop body.count (trace parts body.start)) ≡ 0 = ap length over in
+    let more : body.count < length (trace parts body.start) = not_ended (trace parts body.start) body.count going in
+    absurd (omega (arith, length-drop body.count (trace parts body.start)))
+
+-- the frames that the levels tell are those of the next point
+pub stack_is : (parts : Parts) (body : Body) → StandsIn parts body → is_ended (trace parts body.start) body.count ≡ false → frames_of parts body.place ≡ stack_of (trace parts body.start) body.count
+unfolding stack_of
+stack_is parts body stands going = stack_at parts body stands going stands.settled

@@ -67,3 +67,7 @@ unfoldable pub left : Parts → List Level → List Point
 left parts [] = []
 left parts (level ∷ outer) =
     map (called_from (callers parts (is_base level) outer)) (left_here parts level (body_at parts level outer)) ++ left parts outer
+
+-- the frame of the statement at a level
+unfoldable pub leaf_of : Parts → Level → List Level → Frame
+leaf_of parts level outer = record { function = level.function; line = line_at (body_at parts level outer) level.at }

@@ -4,3 +4,5 @@ pub mod Place
 pub mod Ahead
 pub mod Cost
 pub mod Body
+pub mod Climb
+pub mod Word

@@ -1,10 +1,13 @@
-ghost use Rattle.std.specs.Prelude.{◌≡◌, ◌+◌, ◌<◌, ◌≤◌, ◌^◌, ℕ, true, false, length, IfOk};
+ghost use Rattle.std.specs.Prelude.{◌≡◌, ◌+◌, ◌<◌, ◌≤◌, ◌^◌, ℕ, true, false, length, IfOk, min, map, take, drop};
 ghost use Rattle.gp_isa.specs.declared.parts.Parts.{Parts};
 ghost use Rattle.gp_isa.specs.Trace.{trace, is_local};
-ghost use Rattle.gp_stack.specs.Goroutine.{next_point, is_ended, labels_of, local_ahead};
+ghost use Rattle.gp_stack.specs.Goroutine.{next_point, is_ended, labels_of, local_ahead, stack_of};
+ghost use Rattle.gp_stack.specs.Word.{word_of};
 ghost use Rattle.gp_stack.specs.Body.{Progress, progress_of, HasRoom, StandsIn, IsAtShared};
 
-use crate::level::{LOOPS, Level};
+use crate::climb::{Climb, leaf, word};
+use crate::level::LOOPS;
+use crate::record::Stack;
 use crate::place::Place;
 use crate::statement::Ahead;
 use gp_isa::{Memory, Program};
@@ -118,6 +121,53 @@ impl Body {
             Ahead::Loop(_, _) => unreachable!(),
             Ahead::Call(_) => unreachable!(),
         }
+    }
+
+    /// The stack of the next point, the leaf first, cut to its first `max` frames.
+    pub fn stack(&self, alloc: Global, program: &Program, max: u32) -> Result<Stack, Memory>
+        requires stands { StandsIn program.now self.now }
+        requires going { let p = progress_of self.now in is_ended (trace program.now p.start) p.count ≡ false }
+        ensures { let p = progress_of self.now in IfOk result (λ stack. stack ≡ take max (stack_of (trace program.now p.start) p.count)) }
+    {
+        let mut frames = Vec::new(alloc);
+        if max > 0 {
+            frames.push(leaf(program, &self.place))?;
+        }
+        let mut climb = Climb::new(&self.place);
+        while frames.len() < max as usize {
+            match climb.next(&self.place, program) {
+                Some(frame) => frames.push(frame)?,
+                None => break,
+            }
+        }
+        Ok(Stack::from_vec(frames))
+    }
+
+    /// Writes the words of the stack of the next point, the leaf first, as many as there is room for, and says how
+    /// many. A frame's word is its function times 2^32 plus its line.
+    pub fn stack_words(&self, program: &Program, to: &mut [u64]) -> usize
+        requires stands { StandsIn program.now self.now }
+        requires going { let p = progress_of self.now in is_ended (trace program.now p.start) p.count ≡ false }
+        ensures count { let p = progress_of self.now in result ≡ min (length to.old) (length (stack_of (trace program.now p.start) p.count)) }
+        ensures words { let p = progress_of self.now in take result to.new ≡ map word_of (take result (stack_of (trace program.now p.start) p.count)) }
+        ensures rest { drop result to.new ≡ drop result to.old }
+    {
+        if to.is_empty() {
+            return 0;
+        }
+        to[0] = word(leaf(program, &self.place));
+        let mut written = 1;
+        let mut climb = Climb::new(&self.place);
+        while written < to.len() {
+            match climb.next(&self.place, program) {
+                Some(frame) => {
+                    to[written] = word(frame);
+                    written += 1;
+                }
+                None => break,
+            }
+        }
+        written
     }
 
     /// Passes up to `n` local points of one statement, and says how many.

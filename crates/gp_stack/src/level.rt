@@ -51,7 +51,7 @@ fn loop_body(body: &[Stmt], at: usize) -> &[Stmt]
 }
 
 /// The line of statement `at`.
-fn line(body: &[Stmt], at: usize) -> u32
+pub(crate) fn line(body: &[Stmt], at: usize) -> u32
     ensures { result ≡ line_at body.now at }
 {
     match body.get(at) {

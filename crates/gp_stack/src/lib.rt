@@ -7,6 +7,7 @@
 #![tactic(auto)]
 
 mod body;
+mod climb;
 mod level;
 mod place;
 mod statement;
