@@ -5,3 +5,4 @@ pub mod Points
 pub mod Settle
 pub mod Stands
 pub mod Climbing
+pub mod Shown

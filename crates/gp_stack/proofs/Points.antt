@@ -9,11 +9,11 @@ after_append : (set : ℕ) (xs ys : List Point) → set_after_all set (xs ++ ys)
 after_append set [] ys = refl
 after_append set (x ∷ xs) ys = after_append (set_after set x.instruction) xs ys
 
-take_none : (n k : ℕ) → take {A = Point} (suc (n + k)) [] ≡ take (suc n) [] ++ take k (drop (suc n) [])
+take_none : {X : Type 0} (n k : ℕ) → take {A = X} (suc (n + k)) [] ≡ take (suc n) [] ++ take k (drop (suc n) [])
 take_none n zero = refl
 take_none n (suc k) = refl
 
-take_add : (n k : ℕ) (xs : List Point) → take (n + k) xs ≡ take n xs ++ take k (drop n xs)
+pub take_add : {X : Type 0} (n k : ℕ) (xs : List X) → take (n + k) xs ≡ take n xs ++ take k (drop n xs)
 take_add zero k xs = let e : 0 + k ≡ k = omega arith in rw e refl
 take_add (suc n) k [] = let e : suc n + k ≡ suc (n + k) = omega arith in rw e (take_none n k)
 take_add (suc n) k (x ∷ xs) = let e : suc n + k ≡ suc (n + k) = omega arith in rw (e, take_add n k xs) refl

@@ -129,15 +129,16 @@ impl Body {
         requires going { let p = progress_of self.now in is_ended (trace program.now p.start) p.count ≡ false }
         ensures { let p = progress_of self.now in IfOk result (λ stack. stack ≡ take max (stack_of (trace program.now p.start) p.count)) }
     {
-        let mut frames = Vec::new(alloc);
-        if max > 0 {
-            frames.push(leaf(program, &self.place))?;
+        if max == 0 {
+            return Ok(Stack::new(alloc));
         }
+        let mut frames = Vec::new(alloc);
+        frames.push(leaf(program, &self.place))?;
         let mut climb = Climb::new(&self.place);
         while frames.len() < max as usize {
             match climb.next(&self.place, program) {
                 Some(frame) => frames.push(frame)?,
-                None => break,
+                None => return Ok(Stack::from_vec(frames)),
             }
         }
         Ok(Stack::from_vec(frames))
@@ -164,7 +165,7 @@ impl Body {
                     to[written] = word(frame);
                     written += 1;
                 }
-                None => break,
+                None => return written,
             }
         }
         written
