@@ -6,3 +6,4 @@ pub mod Settle
 pub mod Stands
 pub mod Climbing
 pub mod Shown
+pub mod Peeks

@@ -6,3 +6,4 @@ pub mod Cost
 pub mod Body
 pub mod Climb
 pub mod Word
+pub mod Peek

@@ -27,7 +27,7 @@ pub(crate) struct Level {
 }
 
 /// The statements of function `f`.
-fn function_body(parts: &Parts, f: u8) -> &[Stmt]
+pub(crate) fn function_body(parts: &Parts, f: u8) -> &[Stmt]
     ensures { result.now ≡ body_of parts.now f }
 {
     match parts.functions.get(f as usize) {

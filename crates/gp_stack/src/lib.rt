@@ -9,6 +9,7 @@
 mod body;
 mod climb;
 mod level;
+mod peek;
 mod place;
 mod statement;
 mod record;
