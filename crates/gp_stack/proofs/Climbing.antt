@@ -22,6 +22,11 @@ callers_looped : (parts : Parts) (o : Level) (outer : List Level) → callers pa
 unfolding callers
 callers_looped parts o outer = refl
 
+pub around : (items : List Level) (k : ℕ) (o : Level) → 0 < k → k ≤ length items → o ≡ get_or items (k - 1) o → reverse (take k items) ≡ o ∷ reverse (take (k - 1) items)
+around items k o some within is =
+    let next : k - 1 + 1 ≡ k = omega arith in
+    ap (λ n. reverse (take n items)) (sym next) ∙ above items (k - 1) o (omega arith) is
+
 at_level : (place : Place) (climb : Climb) (o : Level) → 0 < climb.level → climb.level ≤ length place.outer.items → o ≡ get_or place.outer.items (climb.level - 1) o → reverse (take climb.level place.outer.items) ≡ o ∷ reverse (take (climb.level - 1) place.outer.items)
 at_level place climb o some within is =
     let next : climb.level - 1 + 1 ≡ climb.level = omega arith in

@@ -7,3 +7,4 @@ pub mod Stands
 pub mod Climbing
 pub mod Shown
 pub mod Peeks
+pub mod Looking

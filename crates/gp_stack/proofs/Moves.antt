@@ -10,17 +10,12 @@ use Rattle.gp_isa.specs.declared.statement.What.TheOpen.{Work, Call, Loop}
 use Rattle.gp_isa.specs.Statement.{Action, action_of, line_of}
 use Rattle.gp_isa.specs.Trace.{Point, called_at, repeated, points_at, points_of_body, points_of, body_of, trace_within, trace}
 use Rattle.gp_stack.specs.declared.level.Level.{Level}
-use Rattle.gp_stack.specs.Level.{is_base, body_inside, line_at, body_at, frame_of, callers, called_from, points_of_call, points_of_statements, left_here, left}
+use Rattle.gp_stack.specs.Level.{is_base, body_inside, line_at, body_at, frame_of, callers, called_from, inner_points, points_of_call, points_of_statements, left_here, left}
 use Rattle.gp_stack.specs.Place.{stepped, turned}
 use Rattle.gp_stack.specs.Ahead.{Does}
 use Rattle.gp_stack.proofs.Levels.{drop_at, inside_does, base_false, looped}
 
--- the points of a loop's body, none where loops stand too deep
-abbrev pub inner_points : (ℕ → List Point) → ℕ → ℕ → List Stmt → List Point
-inner_points calls f zero body = []
-inner_points calls f (suc deep) body = points_of_body calls f deep body
-
-body_cons : (calls : ℕ → List Point) (f deep : ℕ) (s : Stmt) (body : List Stmt) → points_of_body calls f deep (s ∷ body) ≡ points_at calls (inner_points calls f deep) f (line_of s) (action_of s) ++ points_of_body calls f deep body
+pub body_cons : (calls : ℕ → List Point) (f deep : ℕ) (s : Stmt) (body : List Stmt) → points_of_body calls f deep (s ∷ body) ≡ points_at calls (inner_points calls f deep) f (line_of s) (action_of s) ++ points_of_body calls f deep body
 body_cons calls f zero s body = refl
 body_cons calls f (suc deep) s body = refl
 
@@ -149,7 +144,7 @@ no_body [] h past = refl
 no_body (f ∷ functions) zero past = absurd (omega arith)
 no_body (f ∷ functions) (suc h) past = no_body functions h (omega arith)
 
-no_function : (parts : Parts) (depth h : ℕ) → length parts.functions ≤ h → points_of_call parts depth h ≡ []
+pub no_function : (parts : Parts) (depth h : ℕ) → length parts.functions ≤ h → points_of_call parts depth h ≡ []
 no_function parts zero h past = refl
 no_function parts (suc depth) h past = trace_call parts depth h ∙ (rw (body_of, no_body parts.functions h past) refl)
 
@@ -194,7 +189,7 @@ no_callers : (parts : Parts) (called : Bool) → callers parts called [] ≡ []
 unfolding callers
 no_callers parts called = refl
 
-left_none : (parts : Parts) → left parts [] ≡ []
+pub left_none : (parts : Parts) → left parts [] ≡ []
 unfolding left
 left_none parts = refl
 

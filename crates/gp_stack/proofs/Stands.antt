@@ -28,7 +28,7 @@ does_one body at a b d e =
     let one : d.statement ≡ e.statement = cc in
     sym d.does ∙ (ap action_of one ∙ e.does)
 
-does_within : (body : List Stmt) (at : ℕ) (s : Stmt) → slice_get body at ≡ Some s → at < length body
+pub does_within : (body : List Stmt) (at : ℕ) (s : Stmt) → slice_get body at ≡ Some s → at < length body
 does_within [] at s found = cc
 does_within (x ∷ body) zero s found = omega arith
 does_within (x ∷ body) (suc at) s found = let h : at < length body = does_within body at s found in omega arith

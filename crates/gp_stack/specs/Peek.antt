@@ -1,6 +1,11 @@
 -- What a look at the points ahead finds.
 use Rattle.std.specs.Prelude.{◌+◌, ℕ, zero, suc, List, [], ◌∷◌, ◌++◌, map, drop, Option, Some, None}
 use Rattle.gp_isa.specs.Trace.{Instruction, Local as LocalPoint, Labels, Send, Recv, Lock, Unlock, Spawn, Point}
+use Rattle.gp_isa.specs.declared.parts.Parts.{Parts}
+use Rattle.gp_isa.specs.declared.statement.Stmt.{Stmt}
+use Rattle.gp_isa.specs.Statement.{Action}
+use Rattle.gp_isa.specs.Trace.{points_at, points_of_body}
+use Rattle.gp_stack.specs.Level.{inner_points, points_of_call}
 use Rattle.gp_stack.specs.declared.peek.Peek.{Peek}
 use Rattle.gp_stack.specs.declared.peek.Then.{Then}
 use Rattle.gp_stack.specs.declared.peek.Then.TheVariants.{Local, Shared, Over}
@@ -43,3 +48,11 @@ abbrev pub peek_of : List (Option Operation) → ℕ → Peek
 peek_of [] limit = record { local = 0; then = Over }
 peek_of (None ∷ more) limit = one_local limit (peek_of more)
 peek_of (Some o ∷ more) limit = record { local = 0; then = Shared o }
+
+-- the points of a statement, and of statements, of function f, where so many calls and loops are followed
+unfoldable pub points_of_action : Parts → ℕ → ℕ → ℕ → ℕ → Action → List Point
+points_of_action parts calls loops f line a =
+    points_at (points_of_call parts calls) (inner_points (points_of_call parts calls) f loops) f line a
+
+unfoldable pub points_of_all : Parts → ℕ → ℕ → ℕ → List Stmt → List Point
+points_of_all parts calls loops f body = points_of_body (points_of_call parts calls) f loops body

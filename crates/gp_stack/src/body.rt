@@ -2,12 +2,14 @@ ghost use Rattle.std.specs.Prelude.{◌≡◌, ◌+◌, ◌<◌, ◌≤◌, ◌^
 ghost use Rattle.gp_isa.specs.declared.parts.Parts.{Parts};
 ghost use Rattle.gp_isa.specs.Trace.{trace, is_local};
 ghost use Rattle.gp_stack.specs.Goroutine.{next_point, is_ended, labels_of, local_ahead, stack_of};
+ghost use Rattle.gp_stack.specs.Peek.{then_at};
 ghost use Rattle.gp_stack.specs.Word.{word_of};
 ghost use Rattle.gp_stack.specs.Body.{Progress, progress_of, HasRoom, StandsIn, IsAtShared};
 
 use crate::climb::{Climb, leaf, word};
 use crate::level::LOOPS;
 use crate::record::Stack;
+use crate::peek::{Peek, Then, look_work};
 use crate::place::Place;
 use crate::statement::Ahead;
 use gp_isa::{Memory, Program};
@@ -118,6 +120,31 @@ impl Body {
             Ahead::End => unreachable!(),
             Ahead::Work(_) => unreachable!(),
             Ahead::Labels(_) => unreachable!(),
+            Ahead::Loop(_, _) => unreachable!(),
+            Ahead::Call(_) => unreachable!(),
+        }
+    }
+
+    /// How many local points are ahead, at most `limit`, and what comes behind them. It looks no further.
+    pub fn peek(&self, program: &Program, limit: u64) -> Peek
+        requires { StandsIn program.now self.now }
+        ensures local { let p = progress_of self.now in result.local ≡ min limit (local_ahead (trace program.now p.start) p.count) }
+        ensures then { let p = progress_of self.now in result.then ≡ then_at (trace program.now p.start) (p.count + result.local) }
+    {
+        match self.place.ahead(program) {
+            Ahead::Work(n) => {
+                let first = look_work(n - self.passed, limit);
+                self.place.look_past(program, first, limit)
+            }
+            Ahead::Labels(_) => self.place.look_past(program, look_work(1, limit), limit),
+            Ahead::Shared(operation) => Peek {
+                local: 0,
+                then: Then::Shared(operation),
+            },
+            Ahead::End => Peek {
+                local: 0,
+                then: Then::Over,
+            },
             Ahead::Loop(_, _) => unreachable!(),
             Ahead::Call(_) => unreachable!(),
         }

@@ -16,4 +16,6 @@ mod record;
 
 pub use body::Body;
 pub use gp_isa::Frame;
+pub use peek::{Peek, Then};
+pub use statement::Operation;
 pub use record::{Profiles, Record, Records, Stack};

@@ -1,12 +1,15 @@
-ghost use Rattle.std.specs.Prelude.{◌≡◌, ◌+◌, ◌*◌, ◌<◌, ◌≤◌, ◌^◌, List, [], ◌∷◌, ◌++◌, IsTrue, length, reverse, vec_len, vec_capacity, drop, IfOk};
+ghost use Rattle.std.specs.Prelude.{◌≡◌, ◌+◌, ◌*◌, ◌<◌, ◌≤◌, ◌^◌, List, [], ◌∷◌, ◌++◌, IsTrue, length, reverse, vec_len, vec_capacity, drop, IfOk, Option};
 ghost use Rattle.std.specs.Bool.{OnTrue, OnFalse};
 ghost use Rattle.gp_stack.specs.Place.{levels, stepped, left_behind, looped, called, room, IsIn, IsSettled};
 ghost use Rattle.gp_isa.specs.Trace.{trace};
 ghost use Rattle.gp_stack.specs.Level.{left, body_at};
 ghost use Rattle.gp_stack.specs.Ahead.{IsAhead, HasNext};
+ghost use Rattle.gp_stack.specs.Peek.{peek_of, steps};
+ghost use Rattle.gp_stack.specs.declared.statement.Operation.{Operation};
 ghost use Rattle.gp_stack.specs.Cost.{cost};
 
 use crate::level::{LOOPS, Level, body};
+use crate::peek::{Peek, Then, look_level};
 use crate::statement::{Ahead, statement_at};
 use gp_isa::{Memory, Program};
 use std::alloc::Global;
@@ -201,5 +204,54 @@ impl Place {
         };
         self.outer.clear();
         self.settle(program);
+    }
+
+    /// The points behind the statement at the place.
+    fn look_behind(&self, program: &Program, limit: u64) -> Peek
+        requires place { IsIn program.now self.now }
+        requires next { self.now.top.at + 1 < 2 ^ 64 }
+        ensures { result ≡ peek_of (steps (left program.now (stepped (levels self.now)))) limit }
+    {
+        let mut top = self.top;
+        top.at += 1;
+        let first = look_level(program, top, self.outer.as_slice(), limit);
+        let mut local = first.local;
+        if !first.is_over() {
+            return first;
+        }
+        let mut around = self.outer.len();
+        while around > 0 {
+            around -= 1;
+            let level = self.outer[around];
+            let seen = look_level(program, level, &self.outer.as_slice()[..around], limit - local);
+            local += seen.local;
+            if !seen.is_over() {
+                return Peek {
+                    local,
+                    then: seen.then,
+                };
+            }
+        }
+        Peek {
+            local,
+            then: Then::Over,
+        }
+    }
+
+    /// What `first` found of the statement at the place, and then the points behind it.
+    pub(crate) fn look_past(&self, program: &Program, first: Peek, limit: u64) -> Peek
+        requires place { IsIn program.now self.now }
+        requires next { self.now.top.at + 1 < 2 ^ 64 }
+        requires few { first.local ≤ limit }
+        ensures { (xs : List (Option Operation)) → first ≡ peek_of xs limit → result ≡ peek_of (xs ++ steps (left program.now (stepped (levels self.now)))) limit }
+    {
+        if !first.is_over() {
+            return first;
+        }
+        let rest = self.look_behind(program, limit - first.local);
+        Peek {
+            local: first.local + rest.local,
+            then: rest.then,
+        }
     }
 }
