@@ -1,12 +1,12 @@
 -- Looks at statements and at the turns of a body.
-use Rattle.std.proofs.Common.{◌≡◌, ◌<◌, ◌≤◌, ◌+◌, ◌-◌, ℕ, zero, suc, List, [], ◌∷◌, ◌++◌, length, drop, take, reverse, get_or, map, replicate, Option, Some, None, refl, ap, sym, ◌∙◌, arith, subst, add-one}
+use Rattle.std.proofs.Common.{◌≡◌, ◌<◌, ◌≤◌, ◌+◌, ◌-◌, min, ℕ, zero, suc, List, [], ◌∷◌, ◌++◌, length, drop, take, reverse, get_or, map, replicate, Option, Some, None, refl, ap, sym, ◌∙◌, arith, subst, add-one}
 use Rattle.std.specs.Prelude.{slice_get}
-use Rattle.std.proofs.lemmas.List.{map-append, drop_all}
+use Rattle.std.proofs.lemmas.List.{map-append, drop_all, drop-drop}
 use Rattle.gp_isa.specs.declared.parts.Parts.{Parts}
 use Rattle.gp_isa.specs.declared.statement.Stmt.{Stmt}
 use Rattle.gp_isa.specs.declared.statement.What.TheOpen.{Work, Call, Loop, Labels, Send, Recv, Lock, Unlock, Spawn}
 use Rattle.gp_isa.specs.Statement.{Action, action_of, line_of}
-use Rattle.gp_isa.specs.Trace.{Point, Local as LocalPoint, point_at, called_at, repeated, points_of_body, body_of, trace_within}
+use Rattle.gp_isa.specs.Trace.{Point, Local as LocalPoint, point_at, called_at, repeated, points_of_body, body_of, trace_within, trace}
 use Rattle.gp_stack.specs.declared.peek.Peek.{Peek}
 use Rattle.gp_stack.specs.declared.peek.Then.{Then}
 use Rattle.gp_stack.specs.declared.peek.Then.TheVariants.{Local, Shared, Over}
@@ -14,14 +14,18 @@ use Rattle.gp_stack.specs.declared.statement.Operation.{Operation}
 use Rattle.gp_stack.specs.declared.statement.Operation.TheVariants as operation
 use Rattle.gp_stack.specs.Ahead.{Does, action_of_operation}
 use Rattle.gp_stack.specs.declared.level.Level.{Level}
-use Rattle.gp_stack.specs.Place.{Fit}
+use Rattle.gp_stack.specs.declared.body.Body.{Body}
+use Rattle.gp_stack.specs.Goroutine.{local_ahead}
+use Rattle.gp_stack.specs.Body.{StandsIn}
+use Rattle.gp_stack.specs.Place.{Fit, levels, stepped}
 use Rattle.gp_stack.specs.Level.{is_base, body_at, callers, called_from, left_here, left, points_of_call, inner_points}
-use Rattle.gp_stack.specs.Peek.{operation_of, steps, peek_of, points_of_action, points_of_all}
+use Rattle.gp_stack.specs.Peek.{operation_of, first_of, then_at, steps, peek_of, points_of_action, points_of_all}
 use Rattle.gp_stack.proofs.Levels.{drop_at}
-use Rattle.gp_stack.proofs.Moves.{body_cons, body_nil, trace_call, no_function, repeated_none, left_cons, left_none}
-use Rattle.gp_stack.proofs.Peeks.{Sees, plus, peek_on, peek_stop, sees_none, sees_on, sees_stop, sees_end, peek_le, steps_called}
+use Rattle.gp_stack.proofs.Moves.{body_cons, body_nil, trace_call, no_function, repeated_none, left_cons, left_none, left_next}
+use Rattle.gp_stack.proofs.Peeks.{Sees, plus, peek_on, peek_stop, sees_none, sees_on, sees_stop, sees_end, peek_le, steps_called, peek_local, peek_then}
 use Rattle.gp_stack.proofs.Climbing.{around}
-use Rattle.gp_stack.proofs.Stands.{does_one, does_within}
+use Rattle.gp_stack.proofs.Stands.{does_one, does_within, next_work, next_shared, shared_point, over_ahead}
+use Rattle.gp_stack.proofs.Points.{work_left}
 
 found : (body : List Stmt) (at : ℕ) → at < length body → (s : Stmt) × (slice_get body at ≡ Some s)
 found [] at within = absurd (omega arith)
@@ -217,12 +221,12 @@ levels_split parts level outer =
     ap steps (left_cons parts level outer) ∙ (map-append (λ point. operation_of point.instruction) (map (called_from (callers parts (is_base level) outer)) (left_here parts level (body_at parts level outer))) (left parts outer) ∙
     ap (λ xs. xs ++ steps (left parts outer)) (steps_called (callers parts (is_base level) outer) (left_here parts level (body_at parts level outer))))
 
-abbrev LevelSeen : Parts → Level → List Level → Peek → ℕ → Type 0
+abbrev pub LevelSeen : Parts → Level → List Level → Peek → ℕ → Type 0
 LevelSeen parts level outer seen limit = seen ≡ peek_of (steps (left_here parts level (body_at parts level outer))) limit
 
 pub first_stop : (parts : Parts) (level : Level) (outer : List Level) (limit : ℕ) (first : Peek) → LevelSeen parts level outer first limit → (first.then ≡ Over → ⊥) → first ≡ peek_of (steps (left parts (level ∷ outer))) limit
 first_stop parts level outer limit first is more =
-    rw levels_split parts level outer (is ∙ sym (peek_stop (steps (left_here parts level (body_at parts level outer))) (steps (left parts outer)) limit (λ e. more (ap (λ p. p.then) is ∙ e))))
+    rw (levels_split parts level outer) (is ∙ sym (peek_stop (steps (left_here parts level (body_at parts level outer))) (steps (left parts outer)) limit (λ e. more (ap (λ p. p.then) is ∙ e))))
 
 pub first_on : (parts : Parts) (level : Level) (outer : List Level) (limit : ℕ) (first : Peek) → LevelSeen parts level outer first limit → first.then ≡ Over → Sees (steps (left parts (level ∷ outer))) limit first.local (steps (left parts outer))
 first_on parts level outer limit first is over =
@@ -255,3 +259,51 @@ past_stop xs ys limit first more is = is ∙ sym (peek_stop xs ys limit (λ e. m
 pub past_on : (xs ys : List (Option Operation)) (limit : ℕ) (first rest : Peek) → first.then ≡ Over → rest ≡ peek_of ys (limit - first.local) → first ≡ peek_of xs limit → record { local = first.local + rest.local; then = rest.then } ≡ peek_of (xs ++ ys) limit
 past_on xs ys limit first rest over found is =
     ap (plus first.local) found ∙ (ap (λ p. plus p.local (peek_of ys (limit - p.local))) is ∙ sym (peek_on xs ys limit (sym (ap (λ p. p.then) is) ∙ over)))
+
+-- what a look from a body finds, told by the trace
+pub seen_is : (points : List Point) (count limit : ℕ) (seen : Peek) → seen ≡ peek_of (steps (drop count points)) limit → (seen.local ≡ min limit (local_ahead points count)) × (seen.then ≡ then_at points (count + seen.local))
+unfolding local_ahead then_at
+seen_is points count limit seen is =
+    (ap (λ p. p.local) is ∙ peek_local (drop count points) limit,
+     ap (λ p. p.then) is ∙ (peek_then (drop count points) limit ∙ (ap (λ p. first_of (drop p.local (drop count points))) (sym is) ∙ ap first_of (drop-drop seen.local count points))))
+
+abbrev BodySeen : Parts → Body → Peek → ℕ → Type 0
+BodySeen parts body seen limit = seen ≡ peek_of (steps (drop body.count (trace parts body.start))) limit
+
+pub body_work : (parts : Parts) (body : Body) (n limit : ℕ) (first seen : Peek) → Does (body_at parts body.place.top (reverse body.place.outer.items)) body.place.top.at (Work n) → StandsIn parts body → first ≡ peek_of (replicate (n - body.passed) None) limit → ((xs : List (Option Operation)) → first ≡ peek_of xs limit → seen ≡ peek_of (xs ++ steps (left parts (stepped (levels body.place)))) limit) → BodySeen parts body seen limit
+body_work parts body n limit first seen d stands found past =
+    let level : Level = body.place.top in
+    let outer : List Level = reverse body.place.outer.items in
+    let p : Point = called_from (callers parts (is_base level) outer) (point_at level.function (line_of d.statement) LocalPoint) in
+    let few : body.passed < n = stands.part (Work n) d in
+    let next : drop body.count (trace parts body.start) ≡ replicate (n - body.passed) p ++ left parts (stepped (level ∷ outer)) =
+        sym stands.left ∙ (ap (drop body.passed) (next_work parts level outer n d) ∙ work_left n body.passed p (left parts (stepped (level ∷ outer))) (omega arith)) in
+    let shown : steps (drop body.count (trace parts body.start)) ≡ replicate (n - body.passed) None ++ steps (left parts (stepped (level ∷ outer))) =
+        ap steps next ∙ (map-append (λ point. operation_of point.instruction) (replicate (n - body.passed) p) (left parts (stepped (level ∷ outer))) ∙ ap (λ xs. xs ++ steps (left parts (stepped (level ∷ outer)))) (steps_work (n - body.passed) p refl)) in
+    past (replicate (n - body.passed) None) found ∙ ap (λ xs. peek_of xs limit) (sym shown)
+
+pub body_labels : (parts : Parts) (body : Body) (s limit : ℕ) (first seen : Peek) → Does (body_at parts body.place.top (reverse body.place.outer.items)) body.place.top.at (Labels s) → StandsIn parts body → first ≡ peek_of (replicate 1 None) limit → ((xs : List (Option Operation)) → first ≡ peek_of xs limit → seen ≡ peek_of (xs ++ steps (left parts (stepped (levels body.place)))) limit) → BodySeen parts body seen limit
+body_labels parts body s limit first seen d stands found past =
+    let level : Level = body.place.top in
+    let outer : List Level = reverse body.place.outer.items in
+    let none : body.passed ≡ 0 = stands.part (Labels s) d in
+    let shown : steps (drop body.count (trace parts body.start)) ≡ None ∷ steps (left parts (stepped (level ∷ outer))) =
+        ap steps (sym stands.left ∙ (ap (λ passed. drop passed (left parts (levels body.place))) none ∙ left_next parts level outer (Labels s) d)) in
+    past (replicate 1 None) found ∙ ap (λ xs. peek_of xs limit) (sym shown)
+
+shared_step : (parts : Parts) (level : Level) (outer : List Level) (line : ℕ) (o : Operation) (rest : List Point) → steps ((shared_point parts level outer line o).point ∷ rest) ≡ Some o ∷ steps rest
+unfolding shared_point
+shared_step parts level outer line (operation.Send n) rest = refl
+shared_step parts level outer line (operation.Recv n) rest = refl
+shared_step parts level outer line (operation.Lock n) rest = refl
+shared_step parts level outer line (operation.Unlock n) rest = refl
+shared_step parts level outer line (operation.Spawn n) rest = refl
+
+pub body_shared : (parts : Parts) (body : Body) (o : Operation) (limit : ℕ) → Does (body_at parts body.place.top (reverse body.place.outer.items)) body.place.top.at (action_of_operation o) → StandsIn parts body → BodySeen parts body (record { local = 0; then = Shared o }) limit
+body_shared parts body o limit d stands =
+    let shown : steps (drop body.count (trace parts body.start)) ≡ Some o ∷ steps (left parts (stepped (levels body.place))) =
+        ap steps (next_shared parts body o d stands) ∙ shared_step parts body.place.top (reverse body.place.outer.items) (line_of d.statement) o (left parts (stepped (levels body.place))) in
+    ap (λ xs. peek_of xs limit) (sym shown)
+
+pub body_over : (parts : Parts) (body : Body) (limit : ℕ) → length (body_at parts body.place.top (reverse body.place.outer.items)) ≤ body.place.top.at → StandsIn parts body → BodySeen parts body (record { local = 0; then = Over }) limit
+body_over parts body limit past stands = ap (λ xs. peek_of (steps xs) limit) (sym (over_ahead parts body past stands))

@@ -46,6 +46,9 @@ peek_le (None ∷ xs) zero = omega arith
 peek_le (None ∷ xs) (suc limit) = let h : (peek_of xs limit).local ≤ limit = peek_le xs limit in omega arith
 peek_le (Some o ∷ xs) limit = omega arith
 
+pub peek_few : (xs : List (Option Operation)) (limit : ℕ) (seen : Peek) → seen ≡ peek_of xs limit → seen.local ≤ limit
+peek_few xs limit seen is = rw is (peek_le xs limit)
+
 pub work_more : (n limit : ℕ) → limit < n → record { local = limit; then = Local } ≡ peek_of (replicate n None) limit
 work_more zero limit more = absurd (omega arith)
 work_more (suc n) zero more = refl

@@ -147,7 +147,7 @@ pub record IsSharedPoint (points : List Point) : Type 0 where
   pub shared : is_local point.instruction ≡ false
   pub plain : (set : ℕ) → set_after_all set (point ∷ []) ≡ set
 
-pub shared_point : (parts : Parts) (level : Level) (outer : List Level) (line : ℕ) (o : Operation) → IsSharedPoint (map (called_from (callers parts (is_base level) outer)) (added parts level line (action_of_operation o)))
+unfoldable pub shared_point : (parts : Parts) (level : Level) (outer : List Level) (line : ℕ) (o : Operation) → IsSharedPoint (map (called_from (callers parts (is_base level) outer)) (added parts level line (action_of_operation o)))
 shared_point parts level outer line (operation.Send n) = record { point = _; alone = refl; shared = refl; plain = λ set. refl }
 shared_point parts level outer line (operation.Recv n) = record { point = _; alone = refl; shared = refl; plain = λ set. refl }
 shared_point parts level outer line (operation.Lock n) = record { point = _; alone = refl; shared = refl; plain = λ set. refl }
