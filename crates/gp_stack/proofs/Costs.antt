@@ -1,5 +1,5 @@
 -- Moves that pass no point lower the cost.
-use Rattle.std.proofs.Common.{◌≡◌, ◌<◌, ◌≤◌, ◌+◌, ◌-◌, ◌*◌, ℕ, zero, suc, Bool, true, false, List, [], ◌∷◌, ◌++◌, length, drop, refl, ap, sym, ◌∙◌, arith, add-one, subst}
+use Rattle.std.proofs.Common.{◌≡◌, ◌<◌, ◌≤◌, ◌+◌, ◌*◌, ℕ, zero, suc, false, List, [], ◌∷◌, length, drop, refl, ap, ◌∙◌, arith, add-one}
 use Rattle.std.proofs.lemmas.List.{drop_all}
 use Rattle.gp_isa.specs.declared.parts.Parts.{Parts}
 use Rattle.gp_isa.specs.declared.statement.Stmt.{Stmt}
@@ -10,7 +10,7 @@ use Rattle.gp_stack.specs.declared.level.Level.{Level}
 use Rattle.gp_stack.specs.Level.{is_base, body_at}
 use Rattle.gp_stack.specs.Place.{stepped, turned}
 use Rattle.gp_stack.specs.Ahead.{Does}
-use Rattle.gp_stack.specs.Cost.{cost_of, total, cost_of_body, cost_of_call, cost_here, cost}
+use Rattle.gp_stack.specs.Cost.{cost_of, cost_of_body, cost_of_call, cost_here, cost}
 use Rattle.gp_stack.proofs.Levels.{drop_at, base_false}
 use Rattle.gp_stack.proofs.Moves.{moved, body_moved, loop_level, call_level, body_of_loop, body_of_call, body_turned}
 
@@ -73,7 +73,7 @@ cost_loop parts level outer k n end body loops few d =
     let new : Level = loop_level level k n body in
     let inner : is_base new ≡ false = base_false new (λ e. omega arith) in
     let in_loop : cost parts (new ∷ stepped (level ∷ outer)) ≡ n * (1 + cost_of_body (cost_of_call parts level.calls) k body) + 1 + cost parts (stepped (level ∷ outer)) =
-        cost_cons parts new (stepped (level ∷ outer)) ∙ (rw (body_of_loop parts level new outer n end body inner d, loop_here parts level k n body) refl) in
+    cost_cons parts new (stepped (level ∷ outer)) ∙ (rw (body_of_loop parts level new outer n end body inner d, loop_here parts level k n body) refl) in
     let next : cost parts (level ∷ outer) ≡ step_cost parts level (Loop n body end) + cost parts (stepped (level ∷ outer)) = cost_next parts level outer (Loop n body end) d in
     let adds : step_cost parts level (Loop n body end) ≡ n * (1 + cost_of_body (cost_of_call parts level.calls) k body) + 3 = rw loops refl in
     omega arith
@@ -90,7 +90,7 @@ pub cost_call : (parts : Parts) (level : Level) (outer : List Level) (k h : ℕ)
 cost_call parts level outer k h calls d =
     let new : Level = call_level level k h in
     let in_call : cost parts (new ∷ stepped (level ∷ outer)) ≡ cost_of_call parts (suc k) h + 1 + cost parts (stepped (level ∷ outer)) =
-        cost_cons parts new (stepped (level ∷ outer)) ∙ (rw (body_of_call parts level (stepped (level ∷ outer)) k h, call_here parts level k h) refl) in
+    cost_cons parts new (stepped (level ∷ outer)) ∙ (rw (body_of_call parts level (stepped (level ∷ outer)) k h, call_here parts level k h) refl) in
     let next : cost parts (level ∷ outer) ≡ step_cost parts level (Call h) + cost parts (stepped (level ∷ outer)) = cost_next parts level outer (Call h) d in
     let adds : step_cost parts level (Call h) ≡ cost_of_call parts (suc k) h + 3 = rw calls refl in
     omega arith
@@ -109,8 +109,8 @@ cost_turned parts level outer zero past turns =
 cost_turned parts level outer (suc n) past turns =
     let each : ℕ = cost_of_body (cost_of_call parts level.calls) level.loops (body_at parts level outer) in
     let before : cost parts (level ∷ outer) ≡ level.turns * (1 + each) + 1 + cost parts outer =
-        cost_cons parts level outer ∙ (rw (here_end parts level (body_at parts level outer) past) refl) in
+    cost_cons parts level outer ∙ (rw (here_end parts level (body_at parts level outer) past) refl) in
     let after : cost parts (record level { at = 0; turns = n } ∷ outer) ≡ each + n * (1 + each) + 1 + cost parts outer =
-        cost_cons parts (record level { at = 0; turns = n }) outer ∙ (rw (body_turned parts level n outer, here_turn parts level (body_at parts level outer) n) refl) in
+    cost_cons parts (record level { at = 0; turns = n }) outer ∙ (rw (body_turned parts level n outer, here_turn parts level (body_at parts level outer) n) refl) in
     let times : level.turns * (1 + each) ≡ suc n * (1 + each) = ap (λ m. m * (1 + each)) turns in
     omega arith

@@ -1,15 +1,15 @@
 -- Statements at places of a body.
-use Rattle.std.proofs.Common.{◌≡◌, ◌<◌, ◌-◌, ◌+◌, ◌==◌, ℕ, zero, suc, Bool, true, false, cond, List, [], ◌∷◌, ◌++◌, Option, Some, None, length, drop, reverse, refl, ap, sym, ◌∙◌, arith, eqb}
-use Rattle.std.proofs.lemmas.List.{reverse-append, nil_from_length}
+use Rattle.std.proofs.Common.{◌≡◌, ◌-◌, ◌==◌, ℕ, zero, suc, true, false, List, [], ◌∷◌, ◌++◌, Some, length, drop, reverse, refl, ap, sym, ◌∙◌, arith}
+use Rattle.std.proofs.lemmas.List.{reverse-append}
 use Rattle.std.specs.Prelude.{slice_get}
 use Rattle.gp_isa.specs.declared.parts.Parts.{Parts}
 use Rattle.gp_isa.specs.declared.statement.Stmt.{Stmt, out-Stmt}
 use Rattle.gp_isa.specs.declared.statement.What.{What}
-use Rattle.gp_isa.specs.Statement.{Action, action, action_of, line_of}
+use Rattle.gp_isa.specs.Statement.{Action, action}
 use Rattle.gp_isa.specs.Trace.{body_of}
 use Rattle.gp_stack.specs.declared.level.Level.{Level}
-use Rattle.gp_stack.specs.Level.{is_base, body_inside, loop_body, line_at, body_at}
-use Rattle.gp_stack.specs.Ahead.{Does, IsAhead}
+use Rattle.gp_stack.specs.Level.{is_base, body_inside, loop_body, body_at}
+use Rattle.gp_stack.specs.Ahead.{Does}
 
 -- the statement that was found, and what it does
 pub does_what : (body : List Stmt) (at : ℕ) (s : Stmt) (w : What) (a : Action) → Some s ≡ slice_get body at → (out-Stmt s).what ≡ w → action w ≡ a → Does body at a

@@ -4,12 +4,11 @@ use Rattle.std.specs.Prelude.{slice_get}
 use Rattle.std.proofs.lemmas.List.{map-append, drop_all, drop-drop}
 use Rattle.gp_isa.specs.declared.parts.Parts.{Parts}
 use Rattle.gp_isa.specs.declared.statement.Stmt.{Stmt}
-use Rattle.gp_isa.specs.declared.statement.What.TheOpen.{Work, Call, Loop, Labels, Send, Recv, Lock, Unlock, Spawn}
+use Rattle.gp_isa.specs.declared.statement.What.TheOpen.{Work, Call, Loop, Labels}
 use Rattle.gp_isa.specs.Statement.{Action, action_of, line_of}
-use Rattle.gp_isa.specs.Trace.{Point, Local as LocalPoint, point_at, called_at, repeated, points_of_body, body_of, trace_within, trace}
+use Rattle.gp_isa.specs.Trace.{Point, Local as LocalPoint, point_at, called_at, repeated, body_of, trace}
 use Rattle.gp_stack.specs.declared.peek.Peek.{Peek}
-use Rattle.gp_stack.specs.declared.peek.Then.{Then}
-use Rattle.gp_stack.specs.declared.peek.Then.TheVariants.{Local, Shared, Over}
+use Rattle.gp_stack.specs.declared.peek.Then.TheVariants.{Shared, Over}
 use Rattle.gp_stack.specs.declared.statement.Operation.{Operation}
 use Rattle.gp_stack.specs.declared.statement.Operation.TheVariants as operation
 use Rattle.gp_stack.specs.Ahead.{Does, action_of_operation}
@@ -18,7 +17,7 @@ use Rattle.gp_stack.specs.declared.body.Body.{Body}
 use Rattle.gp_stack.specs.Goroutine.{local_ahead}
 use Rattle.gp_stack.specs.Body.{StandsIn}
 use Rattle.gp_stack.specs.Place.{Fit, levels, stepped}
-use Rattle.gp_stack.specs.Level.{is_base, body_at, callers, called_from, left_here, left, points_of_call, inner_points}
+use Rattle.gp_stack.specs.Level.{is_base, body_at, callers, called_from, left_here, left, points_of_call}
 use Rattle.gp_stack.specs.Peek.{operation_of, first_of, then_at, steps, peek_of, points_of_action, points_of_all}
 use Rattle.gp_stack.proofs.Levels.{drop_at}
 use Rattle.gp_stack.proofs.Moves.{body_cons, body_nil, trace_call, no_function, repeated_none, left_cons, left_none, left_next}
@@ -206,8 +205,8 @@ level_stop parts level body other limit first same is more =
 pub level_on : (parts : Parts) (level : Level) (body other : List Stmt) (limit : ℕ) (first again : Peek) → body ≡ other → ((f : ℕ) → first ≡ peek_of (steps (points_of_all parts level.calls level.loops f (drop level.at body))) limit) → first.then ≡ Over → ((f : ℕ) → again ≡ peek_of (steps (repeated level.turns (points_of_all parts level.calls level.loops f body))) (limit - first.local)) → record { local = first.local + again.local; then = again.then } ≡ peek_of (steps (left_here parts level other)) limit
 level_on parts level body other limit first again same is over turns =
     rw (← same, level_split parts level body) (ap (plus first.local) (turns level.function) ∙
-        (ap (λ p. plus p.local (peek_of (steps (repeated level.turns (of_level parts level body))) (limit - p.local))) (is level.function) ∙
-        sym (peek_on (steps (of_level parts level (drop level.at body))) (steps (repeated level.turns (of_level parts level body))) limit (sym (ap (λ p. p.then) (is level.function)) ∙ over))))
+    (ap (λ p. plus p.local (peek_of (steps (repeated level.turns (of_level parts level body))) (limit - p.local))) (is level.function) ∙
+    sym (peek_on (steps (of_level parts level (drop level.at body))) (steps (repeated level.turns (of_level parts level body))) limit (sym (ap (λ p. p.then) (is level.function)) ∙ over))))
 
 pub on_few : (parts : Parts) (calls loops from limit : ℕ) (body : List Stmt) (seen : Peek) → ((f : ℕ) → seen ≡ peek_of (steps (points_of_all parts calls loops f (drop from body))) limit) → seen.local ≤ limit
 on_few parts calls loops from limit body seen is = rw (is 0) (peek_le (steps (points_of_all parts calls loops 0 (drop from body))) limit)
@@ -232,7 +231,7 @@ pub first_on : (parts : Parts) (level : Level) (outer : List Level) (limit : ℕ
 first_on parts level outer limit first is over =
     let none : ℕ = 0 in
     let on : Sees (steps (left parts (level ∷ outer))) limit (0 + first.local) (steps (left parts outer)) =
-        sees_on (steps (left parts (level ∷ outer))) (steps (left parts (level ∷ outer))) (steps (left_here parts level (body_at parts level outer))) (steps (left parts outer)) limit 0 first (sees_none (steps (left parts (level ∷ outer))) limit) (levels_split parts level outer) (is ∙ ap (peek_of (steps (left_here parts level (body_at parts level outer)))) (omega arith)) over in
+    sees_on (steps (left parts (level ∷ outer))) (steps (left parts (level ∷ outer))) (steps (left_here parts level (body_at parts level outer))) (steps (left parts outer)) limit 0 first (sees_none (steps (left parts (level ∷ outer))) limit) (levels_split parts level outer) (is ∙ ap (peek_of (steps (left_here parts level (body_at parts level outer)))) (omega arith)) over in
     subst (λ n. Sees (steps (left parts (level ∷ outer))) limit n (steps (left parts outer))) (omega arith) on
 
 pub level_few : (parts : Parts) (level : Level) (outer : List Level) (limit : ℕ) (seen : Peek) → LevelSeen parts level outer seen limit → seen.local ≤ limit
@@ -263,9 +262,10 @@ past_on xs ys limit first rest over found is =
 -- what a look from a body finds, told by the trace
 pub seen_is : (points : List Point) (count limit : ℕ) (seen : Peek) → seen ≡ peek_of (steps (drop count points)) limit → (seen.local ≡ min limit (local_ahead points count)) × (seen.then ≡ then_at points (count + seen.local))
 unfolding local_ahead then_at
-seen_is points count limit seen is =
-    (ap (λ p. p.local) is ∙ peek_local (drop count points) limit,
-     ap (λ p. p.then) is ∙ (peek_then (drop count points) limit ∙ (ap (λ p. first_of (drop p.local (drop count points))) (sym is) ∙ ap first_of (drop-drop seen.local count points))))
+seen_is points count limit seen is = (
+  ap (λ p. p.local) is ∙ peek_local (drop count points) limit,
+  ap (λ p. p.then) is ∙ (peek_then (drop count points) limit ∙ (ap (λ p. first_of (drop p.local (drop count points))) (sym is) ∙ ap first_of (drop-drop seen.local count points))),
+)
 
 abbrev BodySeen : Parts → Body → Peek → ℕ → Type 0
 BodySeen parts body seen limit = seen ≡ peek_of (steps (drop body.count (trace parts body.start))) limit
@@ -277,9 +277,9 @@ body_work parts body n limit first seen d stands found past =
     let p : Point = called_from (callers parts (is_base level) outer) (point_at level.function (line_of d.statement) LocalPoint) in
     let few : body.passed < n = stands.part (Work n) d in
     let next : drop body.count (trace parts body.start) ≡ replicate (n - body.passed) p ++ left parts (stepped (level ∷ outer)) =
-        sym stands.left ∙ (ap (drop body.passed) (next_work parts level outer n d) ∙ work_left n body.passed p (left parts (stepped (level ∷ outer))) (omega arith)) in
+    sym stands.left ∙ (ap (drop body.passed) (next_work parts level outer n d) ∙ work_left n body.passed p (left parts (stepped (level ∷ outer))) (omega arith)) in
     let shown : steps (drop body.count (trace parts body.start)) ≡ replicate (n - body.passed) None ++ steps (left parts (stepped (level ∷ outer))) =
-        ap steps next ∙ (map-append (λ point. operation_of point.instruction) (replicate (n - body.passed) p) (left parts (stepped (level ∷ outer))) ∙ ap (λ xs. xs ++ steps (left parts (stepped (level ∷ outer)))) (steps_work (n - body.passed) p refl)) in
+    ap steps next ∙ (map-append (λ point. operation_of point.instruction) (replicate (n - body.passed) p) (left parts (stepped (level ∷ outer))) ∙ ap (λ xs. xs ++ steps (left parts (stepped (level ∷ outer)))) (steps_work (n - body.passed) p refl)) in
     past (replicate (n - body.passed) None) found ∙ ap (λ xs. peek_of xs limit) (sym shown)
 
 pub body_labels : (parts : Parts) (body : Body) (s limit : ℕ) (first seen : Peek) → Does (body_at parts body.place.top (reverse body.place.outer.items)) body.place.top.at (Labels s) → StandsIn parts body → first ≡ peek_of (replicate 1 None) limit → ((xs : List (Option Operation)) → first ≡ peek_of xs limit → seen ≡ peek_of (xs ++ steps (left parts (stepped (levels body.place)))) limit) → BodySeen parts body seen limit
@@ -288,7 +288,7 @@ body_labels parts body s limit first seen d stands found past =
     let outer : List Level = reverse body.place.outer.items in
     let none : body.passed ≡ 0 = stands.part (Labels s) d in
     let shown : steps (drop body.count (trace parts body.start)) ≡ None ∷ steps (left parts (stepped (level ∷ outer))) =
-        ap steps (sym stands.left ∙ (ap (λ passed. drop passed (left parts (levels body.place))) none ∙ left_next parts level outer (Labels s) d)) in
+    ap steps (sym stands.left ∙ (ap (λ passed. drop passed (left parts (levels body.place))) none ∙ left_next parts level outer (Labels s) d)) in
     past (replicate 1 None) found ∙ ap (λ xs. peek_of xs limit) (sym shown)
 
 shared_step : (parts : Parts) (level : Level) (outer : List Level) (line : ℕ) (o : Operation) (rest : List Point) → steps ((shared_point parts level outer line o).point ∷ rest) ≡ Some o ∷ steps rest
@@ -302,7 +302,7 @@ shared_step parts level outer line (operation.Spawn n) rest = refl
 pub body_shared : (parts : Parts) (body : Body) (o : Operation) (limit : ℕ) → Does (body_at parts body.place.top (reverse body.place.outer.items)) body.place.top.at (action_of_operation o) → StandsIn parts body → BodySeen parts body (record { local = 0; then = Shared o }) limit
 body_shared parts body o limit d stands =
     let shown : steps (drop body.count (trace parts body.start)) ≡ Some o ∷ steps (left parts (stepped (levels body.place))) =
-        ap steps (next_shared parts body o d stands) ∙ shared_step parts body.place.top (reverse body.place.outer.items) (line_of d.statement) o (left parts (stepped (levels body.place))) in
+    ap steps (next_shared parts body o d stands) ∙ shared_step parts body.place.top (reverse body.place.outer.items) (line_of d.statement) o (left parts (stepped (levels body.place))) in
     ap (λ xs. peek_of xs limit) (sym shown)
 
 pub body_over : (parts : Parts) (body : Body) (limit : ℕ) → length (body_at parts body.place.top (reverse body.place.outer.items)) ≤ body.place.top.at → StandsIn parts body → BodySeen parts body (record { local = 0; then = Over }) limit

@@ -1,14 +1,14 @@
 -- Moves that pass no point leave the points that are left as they are.
-use Rattle.std.proofs.Common.{◌≡◌, ◌<◌, ◌≤◌, ◌+◌, ◌-◌, ◌*◌, ◌==◌, ℕ, zero, suc, Bool, true, false, cond, List, [], ◌∷◌, ◌++◌, Option, Some, None, length, drop, map, reverse, refl, ap, sym, ◌∙◌, arith, add-one}
+use Rattle.std.proofs.Common.{◌≡◌, ◌≤◌, ◌+◌, ◌-◌, ℕ, zero, suc, Bool, true, false, List, [], ◌∷◌, ◌++◌, None, length, drop, map, reverse, refl, ap, sym, ◌∙◌, arith, add-one}
 use Rattle.std.proofs.lemmas.List.{append_assoc, append-nil, map-append, drop_all}
 use Rattle.std.specs.Prelude.{slice_get}
 use Rattle.gp_isa.specs.declared.frame.Frame.{Frame}
 use Rattle.gp_isa.specs.declared.parts.Parts.{Parts}
 use Rattle.gp_isa.specs.declared.parts.Function.{Function}
 use Rattle.gp_isa.specs.declared.statement.Stmt.{Stmt}
-use Rattle.gp_isa.specs.declared.statement.What.TheOpen.{Work, Call, Loop}
+use Rattle.gp_isa.specs.declared.statement.What.TheOpen.{Call, Loop}
 use Rattle.gp_isa.specs.Statement.{Action, action_of, line_of}
-use Rattle.gp_isa.specs.Trace.{Point, called_at, repeated, points_at, points_of_body, points_of, body_of, trace_within, trace}
+use Rattle.gp_isa.specs.Trace.{Point, called_at, repeated, points_at, points_of_body, body_of, trace_within, trace}
 use Rattle.gp_stack.specs.declared.level.Level.{Level}
 use Rattle.gp_stack.specs.Level.{is_base, body_inside, line_at, body_at, frame_of, callers, called_from, inner_points, points_of_call, points_of_statements, left_here, left}
 use Rattle.gp_stack.specs.Place.{stepped, turned}
@@ -75,7 +75,7 @@ unfolding body_at
 body_of_loop parts level new outer n end body inner d =
     let same : level.at + 1 - 1 ≡ level.at = omega arith in
     let found : body_inside (body_at parts (moved level (level.at + 1)) outer) (level.at + 1 - 1) ≡ body =
-        rw (body_moved parts level (level.at + 1) outer, same) (inside_does (body_at parts level outer) level.at (Loop n body end) d) in
+    rw (body_moved parts level (level.at + 1) outer, same) (inside_does (body_at parts level outer) level.at (Loop n body end) d) in
     sym (looped parts new (moved level (level.at + 1)) outer inner) ∙ found
 
 callers_in_loop : (parts : Parts) (level : Level) (outer : List Level) → callers parts false (level ∷ outer) ≡ callers parts (is_base level) outer
@@ -92,7 +92,7 @@ left_loop parts level outer k n end body loops few d =
     let inner : is_base new ≡ false = base_false new (λ e. omega arith) in
     let points : List Point = repeated n (points_of_body (points_of_call parts level.calls) level.function k body) in
     let in_loop : left parts (new ∷ stepped (level ∷ outer)) ≡ map (called_from (callers parts (is_base level) outer)) points ++ left parts (stepped (level ∷ outer)) =
-        left_cons parts new (stepped (level ∷ outer)) ∙ (rw (inner, body_of_loop parts level new outer n end body inner d, loop_here parts level k n body, callers_in_loop parts (moved level (level.at + 1)) outer) refl) in
+    left_cons parts new (stepped (level ∷ outer)) ∙ (rw (inner, body_of_loop parts level new outer n end body inner d, loop_here parts level k n body, callers_in_loop parts (moved level (level.at + 1)) outer) refl) in
     let adds : added parts level (line_of d.statement) (Loop n body end) ≡ points = rw loops refl in
     in_loop ∙ sym (left_next parts level outer (Loop n body end) d ∙ (rw adds refl))
 
@@ -135,7 +135,7 @@ left_call parts level outer k h calls d =
     let frame : Frame = record { function = level.function; line = line_of d.statement } in
     let points : List Point = trace_within parts k h in
     let in_call : left parts (new ∷ stepped (level ∷ outer)) ≡ map (called_from (frame ∷ callers parts (is_base level) outer)) points ++ left parts (stepped (level ∷ outer)) =
-        left_cons parts new (stepped (level ∷ outer)) ∙ (rw (body_of_call parts level (moved level (level.at + 1) ∷ outer) k h, call_here parts level k h, callers_in_call parts (moved level (level.at + 1)) outer, frame_of_call parts level outer (Call h) d) refl) in
+    left_cons parts new (stepped (level ∷ outer)) ∙ (rw (body_of_call parts level (moved level (level.at + 1) ∷ outer) k h, call_here parts level k h, callers_in_call parts (moved level (level.at + 1)) outer, frame_of_call parts level outer (Call h) d) refl) in
     let adds : added parts level (line_of d.statement) (Call h) ≡ map (called_at level.function (line_of d.statement)) points = rw calls refl in
     in_call ∙ sym (left_next parts level outer (Call h) d ∙ (rw (adds, map_called level.function (line_of d.statement) (callers parts (is_base level) outer) points) refl))
 
@@ -178,7 +178,7 @@ left_turned parts level outer zero past turns =
 left_turned parts level outer (suc n) past turns =
     let points : List Point = points_of_statements parts level (body_at parts level outer) in
     let again : left_here parts level (body_at parts level outer) ≡ repeated (suc n) points =
-        here_end parts level (body_at parts level outer) past ∙ ap (λ m. repeated m points) turns in
+    here_end parts level (body_at parts level outer) past ∙ ap (λ m. repeated m points) turns in
     left_cons parts (record level { at = 0; turns = n }) outer ∙ (rw (body_turned parts level n outer, here_turn parts level (body_at parts level outer) n) (sym (left_cons parts level outer ∙ (rw again refl))))
 
 map_no_callers : (points : List Point) → map (called_from []) points ≡ points
@@ -199,5 +199,5 @@ unfolding trace
 left_begin parts f calls outer all none =
     let level : Level = record { at = 0; turns = 0; calls = calls; function = f; loops = 8 } in
     let begun : left parts (level ∷ []) ≡ trace_within parts calls f =
-        left_cons parts level [] ∙ (rw (left_none parts, no_callers parts (is_base level), body_of_call parts level [] calls f, call_here parts level calls f) (append-nil (map (called_from []) (trace_within parts calls f)) ∙ map_no_callers (trace_within parts calls f))) in
+    left_cons parts level [] ∙ (rw (left_none parts, no_callers parts (is_base level), body_of_call parts level [] calls f, call_here parts level calls f) (append-nil (map (called_from []) (trace_within parts calls f)) ∙ map_no_callers (trace_within parts calls f))) in
     ap (λ ls. left parts (level ∷ reverse ls)) none ∙ (begun ∙ ap (λ depth. trace_within parts depth f) all)

@@ -1,15 +1,13 @@
 -- Looks at points, one piece after another.
-use Rattle.std.proofs.Common.{◌≡◌, ◌<◌, ◌≤◌, ◌+◌, ◌-◌, ℕ, zero, suc, min, Bool, true, false, cond, List, [], ◌∷◌, ◌++◌, length, drop, map, replicate, Option, Some, None, refl, ap, sym, ◌∙◌, arith}
-use Rattle.std.proofs.lemmas.List.{map-append, append-nil}
+use Rattle.std.proofs.Common.{◌≡◌, ◌<◌, ◌≤◌, ◌+◌, ◌-◌, ℕ, zero, suc, min, Bool, true, false, cond, List, [], ◌∷◌, ◌++◌, drop, map, replicate, Option, Some, None, refl, ap, sym, ◌∙◌, arith}
 use Rattle.std.specs.List.{prefix_len}
 use Rattle.gp_isa.specs.declared.frame.Frame.{Frame}
-use Rattle.gp_isa.specs.Trace.{Instruction, Local as LocalPoint, Labels, Send, Recv, Lock, Unlock, Spawn, Point, is_local, repeated}
+use Rattle.gp_isa.specs.Trace.{Instruction, Local as LocalPoint, Labels, Send, Recv, Lock, Unlock, Spawn, Point, is_local}
 use Rattle.gp_stack.specs.declared.peek.Peek.{Peek}
-use Rattle.gp_stack.specs.declared.peek.Then.{Then}
-use Rattle.gp_stack.specs.declared.peek.Then.TheVariants.{Local, Shared, Over}
+use Rattle.gp_stack.specs.declared.peek.Then.TheVariants.{Local, Over}
 use Rattle.gp_stack.specs.declared.statement.Operation.{Operation}
 use Rattle.gp_stack.specs.Level.{called_from}
-use Rattle.gp_stack.specs.Peek.{operation_of, then_is, first_of, then_at, steps, one_local, peek_of}
+use Rattle.gp_stack.specs.Peek.{operation_of, then_is, first_of, steps, one_local, peek_of}
 
 -- so many local points, and then what another look finds
 abbrev pub plus : ℕ → Peek → Peek
@@ -81,7 +79,7 @@ sees_on xs rest ys zs limit n seen sees split is over =
     let here : n ≤ limit = sees.few in
     record {
       finds = sees.finds ∙ (ap (plus n) (found ∙ ap (λ l. plus seen.local (peek_of zs l)) same) ∙ ap (λ l. record { local = l; then = (peek_of zs (limit - (n + seen.local))).then }) (omega arith));
-      few = omega arith
+      few = omega arith;
     }
 
 pub sees_stop : (xs rest ys zs : List (Option Operation)) (limit n : ℕ) (seen : Peek) → Sees xs limit n rest → rest ≡ ys ++ zs → seen ≡ peek_of ys (limit - n) → (seen.then ≡ Over → ⊥) → plus n seen ≡ peek_of xs limit
@@ -111,9 +109,9 @@ peek_local (p ∷ points) limit =
     kinds (λ b o. (peek_of (o ∷ steps points) limit).local ≡ min limit (cond b (1 + prefix_len (λ point. is_local point.instruction) points) 0))
     (at_local limit (λ l. peek_local points l)) (λ o. omega arith) p.instruction
   where
-  at_local : (l : ℕ) → ((k : ℕ) → (peek_of (steps points) k).local ≡ min k (prefix_len (λ point. is_local point.instruction) points)) → (one_local l (peek_of (steps points))).local ≡ min l (1 + prefix_len (λ point. is_local point.instruction) points)
-  at_local zero r = omega arith
-  at_local (suc k) r = let h : (peek_of (steps points) k).local ≡ min k (prefix_len (λ point. is_local point.instruction) points) = r k in omega arith
+    at_local : (l : ℕ) → ((k : ℕ) → (peek_of (steps points) k).local ≡ min k (prefix_len (λ point. is_local point.instruction) points)) → (one_local l (peek_of (steps points))).local ≡ min l (1 + prefix_len (λ point. is_local point.instruction) points)
+    at_local zero r = omega arith
+    at_local (suc k) r = let h : (peek_of (steps points) k).local ≡ min k (prefix_len (λ point. is_local point.instruction) points) = r k in omega arith
 
 pub peek_then : (points : List Point) (limit : ℕ) → (peek_of (steps points) limit).then ≡ first_of (drop (peek_of (steps points) limit).local points)
 peek_then [] limit = refl
@@ -121,6 +119,6 @@ peek_then (p ∷ points) limit =
     kinds (λ b o. operation_of p.instruction ≡ o → (peek_of (o ∷ steps points) limit).then ≡ first_of (drop (peek_of (o ∷ steps points) limit).local (p ∷ points)))
     (λ e. at_local limit e (λ l. peek_then points l)) (λ o e. ap then_is (sym e)) p.instruction refl
   where
-  at_local : (l : ℕ) → operation_of p.instruction ≡ None → ((k : ℕ) → (peek_of (steps points) k).then ≡ first_of (drop (peek_of (steps points) k).local points)) → (one_local l (peek_of (steps points))).then ≡ first_of (drop (one_local l (peek_of (steps points))).local (p ∷ points))
-  at_local zero e r = ap then_is (sym e)
-  at_local (suc k) e r = let same : (peek_of (steps points) k).local + 1 ≡ suc (peek_of (steps points) k).local = omega arith in rw same (r k)
+    at_local : (l : ℕ) → operation_of p.instruction ≡ None → ((k : ℕ) → (peek_of (steps points) k).then ≡ first_of (drop (peek_of (steps points) k).local points)) → (one_local l (peek_of (steps points))).then ≡ first_of (drop (one_local l (peek_of (steps points))).local (p ∷ points))
+    at_local zero e r = ap then_is (sym e)
+    at_local (suc k) e r = let same : (peek_of (steps points) k).local + 1 ≡ suc (peek_of (steps points) k).local = omega arith in rw same (r k)

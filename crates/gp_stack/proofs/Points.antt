@@ -1,9 +1,9 @@
 -- Points that are passed one after another: what is left, and the labels.
-use Rattle.std.proofs.Common.{◌≡◌, ◌<◌, ◌≤◌, ◌+◌, ◌-◌, ◌*◌, ℕ, zero, suc, Bool, true, false, cond, List, [], ◌∷◌, ◌++◌, length, drop, take, map, replicate, get_or, refl, ap, sym, ◌∙◌, arith, nat_le}
-use Rattle.std.proofs.lemmas.List.{append_assoc, append-nil, drop-drop, drop_at, drop_all, take_at, take-append-le, take-replicate, drop-append-le, drop-replicate, get_or-drop, length-append, length-map, length-replicate, length-drop, length-take}
+use Rattle.std.proofs.Common.{◌≡◌, ◌≤◌, ◌+◌, ◌-◌, ℕ, zero, suc, Bool, true, false, cond, List, [], ◌∷◌, ◌++◌, length, drop, take, replicate, get_or, refl, ap, sym, ◌∙◌, arith}
+use Rattle.std.proofs.lemmas.List.{drop-drop, drop_at, take-append-le, take-replicate, drop-append-le, drop-replicate, get_or-drop, length-replicate}
 use Rattle.std.specs.List.{prefix_len}
-use Rattle.gp_isa.specs.Trace.{Instruction, Local, Labels, Point, is_local}
-use Rattle.gp_stack.specs.Goroutine.{no_point, next_point, is_ended, set_after, set_after_all, labels_of, local_ahead}
+use Rattle.gp_isa.specs.Trace.{Local, Point, is_local}
+use Rattle.gp_stack.specs.Goroutine.{no_point, next_point, set_after, set_after_all, labels_of, local_ahead}
 
 after_append : (set : ℕ) (xs ys : List Point) → set_after_all set (xs ++ ys) ≡ set_after_all (set_after_all set xs) ys
 after_append set [] ys = refl
@@ -49,9 +49,9 @@ prefix_le : (test : Point → Bool) (xs : List Point) → prefix_len test xs ≤
 prefix_le test [] = omega arith
 prefix_le test (x ∷ xs) = prefix_cons (test x) (prefix_le test xs)
   where
-  prefix_cons : (b : Bool) → prefix_len test xs ≤ length xs → cond b (1 + prefix_len test xs) 0 ≤ suc (length xs)
-  prefix_cons true h = omega arith
-  prefix_cons false h = omega arith
+    prefix_cons : (b : Bool) → prefix_len test xs ≤ length xs → cond b (1 + prefix_len test xs) 0 ≤ suc (length xs)
+    prefix_cons true h = omega arith
+    prefix_cons false h = omega arith
 
 pub local_ahead_le : (points : List Point) (count : ℕ) → local_ahead points count ≤ length (drop count points)
 unfolding local_ahead
@@ -62,9 +62,9 @@ prefix_drop test xs zero few = omega arith
 prefix_drop test [] (suc k) few = absurd (omega arith)
 prefix_drop test (x ∷ xs) (suc k) few = prefix_more (test x) few (λ h. prefix_drop test xs k h)
   where
-  prefix_more : (b : Bool) → suc k ≤ cond b (1 + prefix_len test xs) 0 → (k ≤ prefix_len test xs → prefix_len test (drop k xs) + k ≡ prefix_len test xs) → prefix_len test (drop k xs) + suc k ≡ cond b (1 + prefix_len test xs) 0
-  prefix_more true h r = let e : prefix_len test (drop k xs) + k ≡ prefix_len test xs = r (omega arith) in omega arith
-  prefix_more false h r = absurd (omega arith)
+    prefix_more : (b : Bool) → suc k ≤ cond b (1 + prefix_len test xs) 0 → (k ≤ prefix_len test xs → prefix_len test (drop k xs) + k ≡ prefix_len test xs) → prefix_len test (drop k xs) + suc k ≡ cond b (1 + prefix_len test xs) 0
+    prefix_more true h r = let e : prefix_len test (drop k xs) + k ≡ prefix_len test xs = r (omega arith) in omega arith
+    prefix_more false h r = absurd (omega arith)
 
 -- fewer local points are ahead once some were passed
 pub local_ahead_more : (points : List Point) (count k : ℕ) → k ≤ local_ahead points count → local_ahead points (count + k) + k ≡ local_ahead points count

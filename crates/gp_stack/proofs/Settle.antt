@@ -1,10 +1,10 @@
 -- What the moves of a place keep.
-use Rattle.std.proofs.Common.{◌≡◌, ◌<◌, ◌≤◌, ◌+◌, ◌-◌, ◌*◌, ℕ, zero, suc, List, [], ◌∷◌, length, refl, ap, sym, ◌∙◌, arith}
-use Rattle.std.proofs.Common.{Bool, true, false, IsTrue}
+use Rattle.std.proofs.Common.{◌≡◌, ◌<◌, ◌≤◌, ◌-◌, ℕ, zero, suc, List, ◌∷◌, length, refl, arith}
+use Rattle.std.proofs.Common.{Bool, true, false}
 use Rattle.std.specs.Bool.{OnTrue, OnFalse}
 use Rattle.gp_isa.specs.declared.parts.Parts.{Parts}
 use Rattle.gp_isa.specs.declared.statement.Stmt.{Stmt}
-use Rattle.gp_isa.specs.declared.statement.What.TheOpen.{Work, Call, Loop, Send, Recv, Lock, Unlock, Spawn}
+use Rattle.gp_isa.specs.declared.statement.What.TheOpen.{Call, Loop, Send, Recv, Lock, Unlock, Spawn}
 use Rattle.gp_isa.specs.Statement.{line_of}
 use Rattle.gp_stack.specs.declared.level.Level.{Level}
 use Rattle.gp_stack.specs.declared.statement.Operation.{Operation}
@@ -12,7 +12,7 @@ use Rattle.gp_stack.specs.declared.statement.Operation.TheVariants as operation
 use Rattle.gp_stack.specs.Level.{body_at, left}
 use Rattle.gp_stack.specs.Cost.{cost}
 use Rattle.gp_stack.specs.Ahead.{Does, action_of_operation}
-use Rattle.gp_stack.specs.Place.{stepped, turned, left_behind, looped, called, Fit, IsSettled, AtPoint, AtEnd}
+use Rattle.gp_stack.specs.Place.{stepped, turned, left_behind, looped, called, Fit, IsSettled, AtPoint}
 use Rattle.gp_stack.proofs.Moves.{left_skip, left_loop, left_call, left_turned, added_no_loop, added_no_call}
 use Rattle.gp_stack.proofs.Costs.{cost_skip, cost_loop, cost_call, cost_turned}
 

@@ -1,6 +1,6 @@
 -- Frames that are shown one after another.
-use Rattle.std.proofs.Common.{◌≡◌, ◌<◌, ◌≤◌, ◌+◌, ◌-◌, ℕ, zero, suc, min, List, [], ◌∷◌, ◌++◌, length, take, drop, map, set, get_or, refl, ap, sym, ◌∙◌, arith}
-use Rattle.std.proofs.lemmas.List.{append_assoc, append-nil, take_at, take_all, take_more_set, drop-drop, drop-set-lt, map-append, length-drop, length-append}
+use Rattle.std.proofs.Common.{◌≡◌, ◌<◌, ◌≤◌, ◌+◌, ℕ, suc, min, List, [], ◌∷◌, ◌++◌, length, take, drop, map, set, refl, ap, sym, ◌∙◌, arith}
+use Rattle.std.proofs.lemmas.List.{append_assoc, append-nil, take_at, take_all, take_more_set, drop-drop, drop-set-lt, map-append, length-drop}
 use Rattle.gp_isa.specs.declared.frame.Frame.{Frame}
 use Rattle.gp_stack.specs.Word.{word_of}
 use Rattle.gp_stack.proofs.Points.{take_add}

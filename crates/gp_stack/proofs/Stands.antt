@@ -1,19 +1,19 @@
 -- A body that stands in a program stands there after it passed points.
-use Rattle.std.proofs.Common.{◌≡◌, ◌<◌, ◌≤◌, ◌+◌, ◌-◌, ◌*◌, ℕ, zero, suc, Bool, true, false, cond, List, [], ◌∷◌, ◌++◌, Option, Some, None, length, drop, take, map, get_or, nat_le, replicate, reverse, refl, ap, sym, ◌∙◌, arith, subst}
-use Rattle.std.proofs.lemmas.List.{append-nil, drop-drop, length-map, length-replicate, length-drop}
+use Rattle.std.proofs.Common.{◌≡◌, ◌<◌, ◌≤◌, ◌+◌, ◌-◌, ℕ, zero, suc, true, false, List, [], ◌∷◌, ◌++◌, Some, length, drop, take, map, get_or, nat_le, replicate, reverse, refl, ap, sym, ◌∙◌, arith, subst}
+use Rattle.std.proofs.lemmas.List.{drop-drop, length-map, length-replicate, length-drop}
 use Rattle.std.specs.Prelude.{slice_get}
 use Rattle.gp_isa.specs.declared.frame.Frame.{Frame}
 use Rattle.gp_isa.specs.declared.parts.Parts.{Parts}
 use Rattle.gp_isa.specs.declared.statement.Stmt.{Stmt}
 use Rattle.gp_isa.specs.declared.statement.What.TheOpen.{Work, Call, Loop, Send, Recv, Lock, Unlock, Spawn, Labels}
 use Rattle.gp_isa.specs.Statement.{Action, action_of, line_of}
-use Rattle.gp_isa.specs.Trace.{Point, Local, Labels as LabelsPoint, point_at, trace, is_local, points_of_body, body_of}
+use Rattle.gp_isa.specs.Trace.{Point, Local, Labels as LabelsPoint, point_at, trace, is_local}
 use Rattle.gp_stack.specs.declared.body.Body.{Body}
 use Rattle.gp_stack.specs.declared.level.Level.{Level}
 use Rattle.gp_stack.specs.declared.place.Place.{Place}
 use Rattle.gp_stack.specs.declared.statement.Operation.{Operation}
 use Rattle.gp_stack.specs.declared.statement.Operation.TheVariants as operation
-use Rattle.gp_stack.specs.Goroutine.{no_point, next_point, stack_of, is_ended, set_after_all, labels_of, local_ahead}
+use Rattle.gp_stack.specs.Goroutine.{no_point, next_point, stack_of, is_ended, set_after_all, local_ahead}
 use Rattle.gp_stack.specs.Level.{is_base, body_at, line_at, callers, called_from, leaf_of, left}
 use Rattle.gp_stack.specs.Place.{levels, stepped, IsIn, IsSettled, AtPoint, AtEnd, IsPoint}
 use Rattle.gp_stack.specs.Ahead.{Does, action_of_operation}
@@ -86,7 +86,7 @@ stands_after parts body place a k labels d stands whole rest settled size within
     let all : left parts (level ∷ outer) ≡ xs ++ left parts (stepped (level ∷ outer)) = left_next parts level outer a d in
     let all_left : drop body.passed (xs ++ left parts (stepped (level ∷ outer))) ≡ drop body.count (trace parts body.start) = ap (drop body.passed) (sym all) ∙ stands.left in
     let behind : drop (body.count + k) (trace parts body.start) ≡ left parts (stepped (level ∷ outer)) =
-        passed_whole xs (left parts (stepped (level ∷ outer))) (trace parts body.start) body.passed body.count k (length_added parts level outer (line_of d.statement) a ∙ size) all_left in
+    passed_whole xs (left parts (stepped (level ∷ outer))) (trace parts body.start) body.passed body.count k (length_added parts level outer (line_of d.statement) a ∙ size) all_left in
     record {
       place = whole;
       settled = settled;
@@ -94,7 +94,7 @@ stands_after parts body place a k labels d stands whole rest settled size within
       left = rest ∙ sym behind;
       within = within;
       short = stands.short;
-      labels = after ∙ (ap (λ points. set_after_all body.labels (take k points)) stands.left ∙ (ap (λ l. set_after_all l (take k (drop body.count (trace parts body.start)))) stands.labels ∙ sym (labels_more (trace parts body.start) body.set body.count k)))
+      labels = after ∙ (ap (λ points. set_after_all body.labels (take k points)) stands.left ∙ (ap (λ l. set_after_all l (take k (drop body.count (trace parts body.start)))) stands.labels ∙ sym (labels_more (trace parts body.start) body.set body.count k)));
     }
 
 -- so many points can be passed as are ahead
@@ -120,7 +120,7 @@ stands_part parts body n k d stands few within =
     let outer : List Level = reverse body.place.outer.items in
     let p : Point = called_from (callers parts (is_base level) outer) (point_at level.function (line_of d.statement) Local) in
     let same : body.labels ≡ set_after_all body.labels (take k (drop body.passed (left parts (levels body.place)))) =
-        sym (ap (λ points. set_after_all body.labels (take k (drop body.passed points))) (next_work parts level outer n d) ∙ work_labels body.labels n body.passed k p (left parts (stepped (level ∷ outer))) refl (omega arith)) in
+    sym (ap (λ points. set_after_all body.labels (take k (drop body.passed points))) (next_work parts level outer n d) ∙ work_labels body.labels n body.passed k p (left parts (stepped (level ∷ outer))) refl (omega arith)) in
     record {
       place = stands.place;
       settled = stands.settled;
@@ -128,7 +128,7 @@ stands_part parts body n k d stands few within =
       left = sym (drop-drop k body.passed (left parts (levels body.place))) ∙ (ap (drop k) stands.left ∙ drop-drop k body.count (trace parts body.start));
       within = within;
       short = stands.short;
-      labels = same ∙ (ap (λ points. set_after_all body.labels (take k points)) stands.left ∙ (ap (λ l. set_after_all l (take k (drop body.count (trace parts body.start)))) stands.labels ∙ sym (labels_more (trace parts body.start) body.set body.count k)))
+      labels = same ∙ (ap (λ points. set_after_all body.labels (take k points)) stands.left ∙ (ap (λ l. set_after_all l (take k (drop body.count (trace parts body.start)))) stands.labels ∙ sym (labels_more (trace parts body.start) body.set body.count k)));
     }
 
 pub stands_labels : (parts : Parts) (body : Body) (place : Place) (s : ℕ) → Does (body_at parts body.place.top (reverse body.place.outer.items)) body.place.top.at (Labels s) → StandsIn parts body → IsIn parts place → left parts (levels place) ≡ left parts (stepped (levels body.place)) → IsSettled parts place.top (reverse place.outer.items) → body.count + 1 ≤ length (trace parts body.start) → StandsIn parts (record { start = body.start; set = body.set; labels = s; count = body.count + 1; passed = body.passed; place = place })
@@ -177,7 +177,7 @@ stands_shared parts body place o d stands whole rest settled within =
     let none : body.passed ≡ 0 = part_shared body.passed o (stands.part (action_of_operation o) d) in
     let after : body.labels ≡ set_after_all body.labels (take 1 (drop body.passed (left parts (levels body.place)))) = sym (ap (λ points. set_after_all body.labels (take 1 points)) (stands.left ∙ next_shared parts body o d stands) ∙ point.plain body.labels) in
     let size : length (added parts level (line_of d.statement) (action_of_operation o)) ≡ body.passed + 1 =
-        sym (length_added parts level outer (line_of d.statement) (action_of_operation o)) ∙ (ap length point.alone ∙ omega arith) in
+    sym (length_added parts level outer (line_of d.statement) (action_of_operation o)) ∙ (ap length point.alone ∙ omega arith) in
     let whole_one : StandsIn parts (record { start = body.start; set = body.set; labels = body.labels; count = body.count + 1; passed = 0; place = place }) = stands_after parts body place (action_of_operation o) 1 body.labels d stands whole rest settled size within after in
     subst (λ passed. StandsIn parts (record { start = body.start; set = body.set; labels = body.labels; count = body.count + 1; passed = passed; place = place })) (sym none) whole_one
 
@@ -227,9 +227,9 @@ no_work parts body n d stands shared =
     let p : Point = called_from (callers parts (is_base level) outer) (point_at level.function (line_of d.statement) Local) in
     let few : body.passed < n = stands.part (Work n) d in
     let next : drop body.count (trace parts body.start) ≡ replicate (n - body.passed) p ++ left parts (stepped (level ∷ outer)) =
-        sym stands.left ∙ (ap (drop body.passed) (next_work parts level outer n d) ∙ work_left n body.passed p (left parts (stepped (level ∷ outer))) (omega arith)) in
+    sym stands.left ∙ (ap (drop body.passed) (next_work parts level outer n d) ∙ work_left n body.passed p (left parts (stepped (level ∷ outer))) (omega arith)) in
     let head : next_point (trace parts body.start) body.count ≡ p =
-        next_is (trace parts body.start) body.count ∙ (ap (λ xs. get_or xs 0 no_point) next ∙ first_replicate (n - body.passed) p (left parts (stepped (level ∷ outer))) (omega arith)) in
+    next_is (trace parts body.start) body.count ∙ (ap (λ xs. get_or xs 0 no_point) next ∙ first_replicate (n - body.passed) p (left parts (stepped (level ∷ outer))) (omega arith)) in
     let local : is_local (next_point (trace parts body.start) body.count).instruction ≡ true = ap (λ q. is_local q.instruction) head in
     cc (shared.shared)
 
@@ -240,9 +240,9 @@ no_labels parts body s d stands shared =
     let p : Point = called_from (callers parts (is_base level) outer) (point_at level.function (line_of d.statement) (LabelsPoint s)) in
     let none : body.passed ≡ 0 = stands.part (Labels s) d in
     let next : drop body.count (trace parts body.start) ≡ p ∷ left parts (stepped (level ∷ outer)) =
-        sym stands.left ∙ (ap (λ passed. drop passed (left parts (levels body.place))) none ∙ left_next parts level outer (Labels s) d) in
+    sym stands.left ∙ (ap (λ passed. drop passed (left parts (levels body.place))) none ∙ left_next parts level outer (Labels s) d) in
     let head : next_point (trace parts body.start) body.count ≡ p =
-        next_is (trace parts body.start) body.count ∙ ap (λ xs. get_or xs 0 no_point) next in
+    next_is (trace parts body.start) body.count ∙ ap (λ xs. get_or xs 0 no_point) next in
     let local : is_local (next_point (trace parts body.start) body.count).instruction ≡ true = ap (λ q. is_local q.instruction) head in
     cc (shared.shared)
 
@@ -277,7 +277,7 @@ first_point parts level outer line passed rest (Work n) p few =
       point = called_from (callers parts (is_base level) outer) (point_at level.function line Local);
       others = replicate (n - passed - 1) (called_from (callers parts (is_base level) outer) (point_at level.function line Local)) ++ rest;
       first = ap (λ xs. drop passed (xs ++ rest)) (map_replicate (called_from (callers parts (is_base level) outer)) n (point_at level.function line Local)) ∙ (work_left n passed (called_from (callers parts (is_base level) outer) (point_at level.function line Local)) rest (omega arith) ∙ split_first (n - passed) (called_from (callers parts (is_base level) outer) (point_at level.function line Local)) rest (omega arith));
-      stack = refl
+      stack = refl;
     }
 first_point parts level outer line passed rest (Call f) p few = absurd p
 first_point parts level outer line passed rest (Loop n body end) p few = absurd p
@@ -293,11 +293,11 @@ stack_at parts body stands going (AtPoint a d p) =
     let level : Level = body.place.top in
     let outer : List Level = reverse body.place.outer.items in
     let first : IsFirst parts level outer (line_of d.statement) (drop body.passed (map (called_from (callers parts (is_base level) outer)) (added parts level (line_of d.statement) a) ++ left parts (stepped (level ∷ outer)))) =
-        first_point parts level outer (line_of d.statement) body.passed (left parts (stepped (level ∷ outer))) a p (stands.part a d) in
+    first_point parts level outer (line_of d.statement) body.passed (left parts (stepped (level ∷ outer))) a p (stands.part a d) in
     let next : drop body.count (trace parts body.start) ≡ first.point ∷ first.others =
-        sym stands.left ∙ (ap (drop body.passed) (left_next parts level outer a d) ∙ first.first) in
+    sym stands.left ∙ (ap (drop body.passed) (left_next parts level outer a d) ∙ first.first) in
     let head : next_point (trace parts body.start) body.count ≡ first.point =
-        next_is (trace parts body.start) body.count ∙ ap (λ xs. get_or xs 0 no_point) next in
+    next_is (trace parts body.start) body.count ∙ ap (λ xs. get_or xs 0 no_point) next in
     ap (λ leaf. leaf ∷ callers parts (is_base level) outer) (leaf_is parts level outer a d) ∙ (sym first.stack ∙ ap (λ q. q.stack) (sym head))
 stack_at parts body stands going (AtEnd past turns none) =
     let over : drop body.count (trace parts body.start) ≡ [] = over_ahead parts body past stands in

@@ -1,5 +1,5 @@
 -- What a body shows, and that it stands where its goroutine stands in a program.
-use Rattle.std.specs.Prelude.{◌≡◌, ◌+◌, ◌<◌, ◌≤◌, ◌^◌, ℕ, false, List, [], ◌∷◌, length, drop, reverse, vec_capacity}
+use Rattle.std.specs.Prelude.{◌≡◌, ◌<◌, ◌≤◌, ◌^◌, ℕ, false, List, length, drop, reverse, vec_capacity}
 use Rattle.gp_isa.specs.declared.parts.Parts.{Parts}
 use Rattle.gp_isa.specs.declared.statement.What.TheOpen.{Work}
 use Rattle.gp_isa.specs.Statement.{Action}

@@ -1,8 +1,8 @@
 -- Where a goroutine stands, told by its trace and its count, which is the number of points that it has passed.
-use Rattle.std.specs.Prelude.{◌<◌, ℕ, Bool, List, [], ◌∷◌, length, get_or, take, drop, nat_le}
+use Rattle.std.specs.Prelude.{ℕ, Bool, List, [], ◌∷◌, length, get_or, take, drop, nat_le}
 use Rattle.std.specs.List.{prefix_len}
 use Rattle.gp_isa.specs.declared.frame.Frame.{Frame}
-use Rattle.gp_isa.specs.Trace.{Instruction, Local, Labels, Send, Recv, Lock, Unlock, Spawn, Point, is_local}
+use Rattle.gp_isa.specs.Trace.{Instruction, Local, Labels, Point, is_local}
 
 -- what stands for a point past the end of a trace
 abbrev pub no_point : Point

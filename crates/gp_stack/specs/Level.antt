@@ -1,10 +1,10 @@
 -- Where a body stands: levels, the innermost first. What they leave of the trace is the points that are still to
 -- come.
-use Rattle.std.specs.Prelude.{◌≡◌, ◌-◌, ◌==◌, ◌<◌, ℕ, zero, suc, Bool, true, false, cond, List, [], ◌∷◌, ◌++◌, length, map, drop, Option, Some, None, slice_get}
+use Rattle.std.specs.Prelude.{◌-◌, ◌==◌, ℕ, zero, suc, Bool, cond, List, [], ◌∷◌, ◌++◌, map, drop, Some, None, slice_get}
 use Rattle.gp_isa.specs.declared.frame.Frame.{Frame}
 use Rattle.gp_isa.specs.declared.parts.Parts.{Parts}
 use Rattle.gp_isa.specs.declared.statement.Stmt.{Stmt}
-use Rattle.gp_isa.specs.declared.statement.What.TheOpen.{Work, Call, Loop, Send, Recv, Lock, Unlock, Spawn, Labels}
+use Rattle.gp_isa.specs.declared.statement.What.TheOpen.{Loop}
 use Rattle.gp_isa.specs.Statement.{Action, action_of, line_of}
 use Rattle.gp_isa.specs.Trace.{Point, repeated, points_of_body, body_of, trace_within}
 use Rattle.gp_stack.specs.declared.level.Level.{Level}

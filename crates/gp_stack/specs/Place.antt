@@ -1,5 +1,5 @@
 -- Places in a trace, and the moves between them that pass no point.
-use Rattle.std.specs.Prelude.{◌≡◌, ◌+◌, ◌-◌, ◌*◌, ◌≤◌, ◌<◌, ◌⊎◌, ℕ, zero, suc, Bool, true, false, List, [], ◌∷◌, length, reverse, vec_capacity}
+use Rattle.std.specs.Prelude.{◌≡◌, ◌+◌, ◌*◌, ◌≤◌, ℕ, zero, suc, List, [], ◌∷◌, length, reverse, vec_capacity}
 use Rattle.gp_isa.specs.declared.parts.Parts.{Parts}
 use Rattle.gp_isa.specs.declared.statement.What.TheOpen.{Work, Call, Loop}
 use Rattle.gp_isa.specs.Statement.{Action}

@@ -8,9 +8,9 @@ ghost use Rattle.gp_stack.specs.Body.{Progress, progress_of, HasRoom, StandsIn, 
 
 use crate::climb::{Climb, leaf, word};
 use crate::level::LOOPS;
-use crate::record::Stack;
 use crate::peek::{Peek, Then, look_work};
 use crate::place::Place;
+use crate::record::Stack;
 use crate::statement::Ahead;
 use gp_isa::{Memory, Program};
 use std::alloc::Global;

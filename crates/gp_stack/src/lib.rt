@@ -11,11 +11,11 @@ mod climb;
 mod level;
 mod peek;
 mod place;
-mod statement;
 mod record;
+mod statement;
 
 pub use body::Body;
 pub use gp_isa::Frame;
 pub use peek::{Peek, Then};
-pub use statement::Operation;
 pub use record::{Profiles, Record, Records, Stack};
+pub use statement::Operation;

@@ -176,12 +176,26 @@ pub(crate) fn look_level(program: &Program, level: Level, outer: &[Level], limit
     ensures { result ≡ peek_of (steps (left_here program.now level (body_at program.now level (reverse outer.now)))) limit }
 {
     let statements = body(program.parts(), level, outer);
-    let first = look_on(program, level.calls, level.loops, statements, level.at, limit);
+    let first = look_on(
+        program,
+        level.calls,
+        level.loops,
+        statements,
+        level.at,
+        limit,
+    );
     if !first.is_over() {
         return first;
     }
     let left = limit - first.local;
-    let again = look_turns(program, level.calls, level.loops, statements, level.turns, left);
+    let again = look_turns(
+        program,
+        level.calls,
+        level.loops,
+        statements,
+        level.turns,
+        left,
+    );
     Peek {
         local: first.local + again.local,
         then: again.then,

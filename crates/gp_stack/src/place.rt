@@ -223,7 +223,12 @@ impl Place {
         while around > 0 {
             around -= 1;
             let level = self.outer[around];
-            let seen = look_level(program, level, &self.outer.as_slice()[..around], limit - local);
+            let seen = look_level(
+                program,
+                level,
+                &self.outer.as_slice()[..around],
+                limit - local,
+            );
             local += seen.local;
             if !seen.is_over() {
                 return Peek {

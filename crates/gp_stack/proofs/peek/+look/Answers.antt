@@ -1,5 +1,5 @@
-use Rattle.std.proofs.Common.{◌≡◌, ◌≤◌, ◌-◌, refl, arith}
-use Rattle.gp_stack.proofs.Looking.{at_end, at_work, at_labels, at_shared, at_no_loop, at_loop, at_no_call, at_no_function, at_call, seen_few, seen_on, seen_stop, seen_end, turn_few, turn_on, turn_stop, turn_end}
+use Rattle.std.proofs.Common.{◌≤◌, ◌-◌, refl, arith}
+use Rattle.gp_stack.proofs.Looking.{at_end, at_work, at_labels, at_shared, at_no_loop, at_loop, at_no_call, at_no_function, at_call, seen_few, seen_on, seen_stop, seen_end, turn_few, turn_on, turn_stop}
 use Rattle.gp_stack.proofs.peek.+look.Goals as goal
 
 pub look_at-returns-in-End : goal.look_at-returns-in-End
@@ -38,7 +38,7 @@ look_on-returns-then-not-is_over t c = seen_stop c.args.program.now c.args.calls
 pub look_on-loop-at-preserved : goal.look_on-loop-at-preserved
 look_on-loop-at-preserved t c = record {
   few = (let h : c.look_at-seen.result.local ≤ c.args.limit - c.loop-at.local = seen_few c.args.program.now c.args.calls c.args.loops c.args.statements.now c.loop-at.at c.args.limit c.loop-at.local c.look_at-seen.result c.loop-at-test.true c.look_at-seen.ensures in omega (arith, c.loop-at.invariant.few));
-  sees = seen_on c.args.program.now c.args.calls c.args.loops c.args.statements.now c.args.from c.loop-at.at c.args.limit c.loop-at.local c.look_at-seen.result c.loop-at-test.true c.look_at-seen.ensures c.loop-at.invariant.sees c.if-not-is_over.ensures.over
+  sees = seen_on c.args.program.now c.args.calls c.args.loops c.args.statements.now c.args.from c.loop-at.at c.args.limit c.loop-at.local c.look_at-seen.result c.loop-at-test.true c.look_at-seen.ensures c.loop-at.invariant.sees c.if-not-is_over.ensures.over;
 }
 
 pub look_on-returns : goal.look_on-returns
@@ -53,5 +53,5 @@ look_turns-returns-then-not-is_over t c = turn_stop c.args.program.now c.args.ca
 pub look_turns-loop-turns-preserved : goal.look_turns-loop-turns-preserved
 look_turns-loop-turns-preserved t c = record {
   few = (let h : c.look_on-seen.result.local ≤ c.args.limit - c.loop-turns.local = turn_few c.args.program.now c.args.calls c.args.loops c.args.statements.now c.args.limit c.loop-turns.local c.look_on-seen.result c.look_on-seen.ensures in omega (arith, c.loop-turns.invariant.few));
-  sees = turn_on c.args.program.now c.args.calls c.args.loops c.args.statements.now c.args.n c.loop-turns.turns c.args.limit c.loop-turns.local c.look_on-seen.result (omega arith) c.look_on-seen.ensures c.loop-turns.invariant.sees c.if-not-is_over.ensures.over
+  sees = turn_on c.args.program.now c.args.calls c.args.loops c.args.statements.now c.args.n c.loop-turns.turns c.args.limit c.loop-turns.local c.look_on-seen.result (omega arith) c.look_on-seen.ensures c.loop-turns.invariant.sees c.if-not-is_over.ensures.over;
 }

@@ -1,7 +1,4 @@
-use Rattle.std.proofs.Common.{◌≡◌, ◌+◌, ◌-◌, ◌≤◌, ap, ◌∙◌, arith, sym}
-use Rattle.gp_isa.specs.Trace.{trace}
-use Rattle.gp_stack.specs.Goroutine.{local_ahead}
-use Rattle.gp_stack.proofs.Points.{local_ahead_more}
+use Rattle.std.proofs.Common.{◌≡◌, ◌+◌, ap, ◌∙◌, arith}
 use Rattle.gp_stack.proofs.Stands.{ahead_moved}
 use Rattle.gp_stack.proofs.body.Body.advance.Goals as goal
 
@@ -15,5 +12,5 @@ loop-left-preserved c =
       start = start ∙ c.loop-left.invariant.start;
       set = set ∙ c.loop-left.invariant.set;
       count = omega (arith, c.loop-left.invariant.count, c.advance_some-left.ensures.within);
-      ahead = ahead_moved c.args.program.now c.loop-left.self c.advance_some-left.new.self c.loop-left.left c.advance_some-left.result start count c.advance_some-left.ensures.within c.loop-left.invariant.ahead
+      ahead = ahead_moved c.args.program.now c.loop-left.self c.advance_some-left.new.self c.loop-left.left c.advance_some-left.result start count c.advance_some-left.ensures.within c.loop-left.invariant.ahead;
     }

@@ -10,7 +10,7 @@ invariant-loop-left l = record {
   start : l.self.start ≡ l.initial.self.start;
   set : l.self.set ≡ l.initial.self.set;
   count : l.self.count + l.left ≡ l.initial.self.count + l.n;
-  ahead : l.left ≤ local_ahead (trace l.program l.self.start) l.self.count
+  ahead : l.left ≤ local_ahead (trace l.program l.self.start) l.self.count;
 }
 
 abbrev pub decreases-loop-left : goal.decreases-loop-left

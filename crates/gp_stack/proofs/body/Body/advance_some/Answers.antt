@@ -1,6 +1,6 @@
-use Rattle.std.proofs.Common.{◌≡◌, ◌≤◌, ◌<◌, ◌+◌, ◌-◌, reverse, length, refl, arith}
+use Rattle.std.proofs.Common.{◌≡◌, ◌≤◌, ◌<◌, ◌+◌, ◌-◌, reverse, length, arith}
 use Rattle.gp_isa.specs.Trace.{trace}
-use Rattle.gp_isa.specs.declared.statement.What.TheOpen.{Call, Loop}
+use Rattle.gp_isa.specs.declared.statement.What.TheOpen.{Call}
 use Rattle.gp_stack.specs.Goroutine.{local_ahead}
 use Rattle.gp_stack.proofs.Stands.{settled_point, within_ahead, stands_work, stands_part, stands_labels, no_local_shared, no_local_over}
 use Rattle.gp_stack.proofs.body.Body.advance_some.Goals as goal

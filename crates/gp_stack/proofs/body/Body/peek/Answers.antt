@@ -1,4 +1,3 @@
-use Rattle.std.proofs.Common.{reverse}
 use Rattle.gp_isa.specs.Trace.{trace}
 use Rattle.gp_stack.proofs.Looking.{seen_is, body_work, body_labels, body_shared, body_over}
 use Rattle.gp_stack.proofs.body.Body.peek.Goals as goal
@@ -34,4 +33,3 @@ returns-in-End-clause-local c =
 pub returns-in-End-clause-then : goal.returns-in-End-clause-then
 returns-in-End-clause-then c =
     (seen_is (trace c.args.program.now c.args.self.now.start) c.args.self.now.count c.args.limit _ (body_over c.args.program.now c.args.self.now c.args.limit c.in-End.ensures.ahead c.requires)).1
-

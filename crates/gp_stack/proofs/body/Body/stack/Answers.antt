@@ -1,4 +1,4 @@
-use Rattle.std.proofs.Common.{rules, ◌≡◌, ◌≤◌, ◌∙◌, ap, sym, arith, take, length}
+use Rattle.std.proofs.Common.{rules, ◌≤◌, ◌∙◌, ap, take, length}
 use Rattle.gp_stack.proofs.Shown.{shown_full, shown_all}
 use Rattle.gp_stack.proofs.Stands.{frames_of, stack_is}
 use Rattle.gp_stack.proofs.body.Body.stack.Goals as goal

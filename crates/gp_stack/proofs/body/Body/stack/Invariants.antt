@@ -7,7 +7,7 @@ abbrev pub invariant-loop-climb : goal.invariant-loop-climb
 invariant-loop-climb l = record {
   few : length l.frames.items ≤ l.max;
   shown : l.frames.items ++ frames_left l.program l.self.place l.climb ≡ frames_of l.program l.self.place;
-  within : l.climb.level ≤ vec_len l.self.place.outer
+  within : l.climb.level ≤ vec_len l.self.place.outer;
 }
 
 abbrev pub decreases-loop-climb : goal.decreases-loop-climb

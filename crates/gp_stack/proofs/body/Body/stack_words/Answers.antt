@@ -1,5 +1,5 @@
-use Rattle.std.proofs.Common.{rules, ◌≡◌, ◌≤◌, ◌<◌, ◌+◌, ◌∷◌, ◌∙◌, ap, sym, arith, take, drop, map, length, min, refl, add-one}
-use Rattle.std.proofs.lemmas.List.{length-set, take_more_set, drop-set-lt}
+use Rattle.std.proofs.Common.{rules, ◌≡◌, ◌≤◌, ◌<◌, ◌∷◌, ◌∙◌, ap, sym, arith, take, drop, map, length, min}
+use Rattle.std.proofs.lemmas.List.{length-set}
 use Rattle.gp_stack.specs.Climb.{frames_left}
 use Rattle.gp_stack.specs.Word.{word_of}
 use Rattle.gp_stack.proofs.Shown.{words_more, left_more, there_more, rest_more, min_full, min_all, words_first, rest_first}
@@ -15,13 +15,13 @@ loop-written-init c =
       words = words_first c.args.to.now c.leaf.result _ c.word.result some c.word.ensures c.leaf.ensures;
       left = sym (c.new-climb.ensures.frames c.args.program.now);
       rest = rest_first c.args.to.now c.word.result;
-      within = c.new-climb.ensures.within
+      within = c.new-climb.ensures.within;
     }
 
 pub loop-written-preserved : goal.loop-written-preserved
 loop-written-preserved c =
     let next : drop c.loop-written.written (frames_of c.args.program.now c.args.self.now.place) ≡ c.in-Some.frame ∷ frames_left c.args.program.now c.args.self.now.place c.next.new.self =
-        c.loop-written.invariant.left ∙ c.in-Some.ensures.frames in
+    c.loop-written.invariant.left ∙ c.in-Some.ensures.frames in
     let within : c.loop-written.written < length c.loop-written.to = search rules in
     record {
       few = omega (arith, length-set c.loop-written.to c.loop-written.written c.word-in-Some.result);
@@ -29,7 +29,7 @@ loop-written-preserved c =
       words = rw c.word-in-Some.ensures (words_more (frames_of c.args.program.now c.args.self.now.place) (frames_left c.args.program.now c.args.self.now.place c.next.new.self) c.in-Some.frame c.loop-written.to c.loop-written.written within next c.loop-written.invariant.words);
       left = left_more (frames_of c.args.program.now c.args.self.now.place) _ c.in-Some.frame c.loop-written.written next;
       rest = rest_more c.loop-written.to c.args.to.now c.loop-written.written c.word-in-Some.result c.loop-written.invariant.rest;
-      within = c.in-Some.ensures.within
+      within = c.in-Some.ensures.within;
     }
 
 pub returns-in-None-clause-count : goal.returns-in-None-clause-count

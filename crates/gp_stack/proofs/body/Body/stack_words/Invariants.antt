@@ -11,7 +11,7 @@ invariant-loop-written l = record {
   words : take l.written l.to ≡ map word_of (take l.written (frames_of l.program l.self.place));
   left : drop l.written (frames_of l.program l.self.place) ≡ frames_left l.program l.self.place l.climb;
   rest : drop l.written l.to ≡ drop l.written l.fn.to;
-  within : l.climb.level ≤ vec_len l.self.place.outer
+  within : l.climb.level ≤ vec_len l.self.place.outer;
 }
 
 abbrev pub decreases-loop-written : goal.decreases-loop-written

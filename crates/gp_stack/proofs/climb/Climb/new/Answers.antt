@@ -1,4 +1,4 @@
-use Rattle.std.proofs.Common.{rules, ◌≡◌, ap, take, length, reverse, arith, ◌∙◌}
+use Rattle.std.proofs.Common.{rules, ap, reverse}
 use Rattle.std.proofs.lemmas.List.{take_all}
 use Rattle.gp_stack.specs.Level.{callers, is_base}
 use Rattle.gp_stack.specs.Climb.{frames_left}

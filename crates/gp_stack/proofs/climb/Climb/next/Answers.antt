@@ -1,4 +1,4 @@
-use Rattle.std.proofs.Common.{rules, ◌≡◌, ◌≤◌, ◌-◌, nat_eq, length, arith, ◌∙◌, ap, sym, ◌∷◌}
+use Rattle.std.proofs.Common.{rules, ◌≤◌, ◌-◌, nat_eq, length, arith, ◌∙◌, ap, sym, ◌∷◌}
 use Rattle.gp_stack.specs.Climb.{frames_left}
 use Rattle.gp_stack.proofs.Climbing.{climb_called, climb_looped, climb_over}
 use Rattle.gp_stack.proofs.climb.Climb.next.Goals as goal
@@ -14,7 +14,7 @@ loop-self-preserved c =
     let w : c.loop-self.self.level ≤ length c.args.place.now.outer.items = search rules in
     record {
       within = omega arith;
-      same = c.loop-self.invariant.same ∙ climb_looped c.args.program.now c.args.place.now c.loop-self.self c.index-level.result.now c.if-called.false (omega arith) w c.index-level.ensures
+      same = c.loop-self.invariant.same ∙ climb_looped c.args.program.now c.args.place.now c.loop-self.self c.index-level.result.now c.if-called.false (omega arith) w c.index-level.ensures;
     }
 
 pub returns-clause-frames : goal.returns-clause-frames

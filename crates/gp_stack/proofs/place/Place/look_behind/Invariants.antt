@@ -1,4 +1,4 @@
-use Rattle.std.proofs.Common.{◌≡◌, ◌≤◌, reverse, take, vec_len}
+use Rattle.std.proofs.Common.{◌≤◌, reverse, take, vec_len}
 use Rattle.gp_stack.specs.Level.{left}
 use Rattle.gp_stack.specs.Place.{levels, stepped, room, Fit}
 use Rattle.gp_stack.specs.Peek.{steps}
@@ -10,7 +10,7 @@ invariant-loop-around l = record {
   few : l.local ≤ l.limit;
   within : l.around ≤ vec_len l.self.outer;
   fit : Fit (room l.program) (reverse (take l.around l.self.outer.items));
-  sees : Sees (steps (left l.program (stepped (levels l.self)))) l.limit l.local (steps (left l.program (reverse (take l.around l.self.outer.items))))
+  sees : Sees (steps (left l.program (stepped (levels l.self)))) l.limit l.local (steps (left l.program (reverse (take l.around l.self.outer.items))));
 }
 
 abbrev pub decreases-loop-around : goal.decreases-loop-around

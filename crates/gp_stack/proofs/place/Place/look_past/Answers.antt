@@ -1,4 +1,4 @@
-use Rattle.std.proofs.Common.{◌≡◌, ◌≤◌, ◌-◌, arith}
+use Rattle.std.proofs.Common.{◌≤◌, ◌-◌, arith}
 use Rattle.gp_stack.specs.Level.{left}
 use Rattle.gp_stack.specs.Peek.{steps}
 use Rattle.gp_stack.specs.Place.{levels, stepped}

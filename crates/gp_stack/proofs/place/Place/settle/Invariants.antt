@@ -7,7 +7,7 @@ use Rattle.gp_stack.proofs.place.Place.settle.Given as goal
 abbrev pub invariant-loop : goal.invariant-loop
 invariant-loop l = record {
   place : IsIn l.program l.self;
-  same : left l.program (levels l.self) ≡ left l.program (levels l.initial.self)
+  same : left l.program (levels l.self) ≡ left l.program (levels l.initial.self);
 }
 
 abbrev pub decreases-loop : goal.decreases-loop

@@ -1,7 +1,7 @@
-use Rattle.std.proofs.Common.{◌≡◌, reverse, refl, ap, arith}
+use Rattle.std.proofs.Common.{reverse, refl, ap, arith}
 use Rattle.gp_isa.specs.declared.statement.What.TheOpen.{Work, Call, Labels}
 use Rattle.gp_isa.specs.Statement.{line_of}
-use Rattle.gp_stack.specs.Place.{levels, AtPoint, AtEnd}
+use Rattle.gp_stack.specs.Place.{levels, AtPoint}
 use Rattle.gp_stack.proofs.Moves.{added, left_skip, added_no_function}
 use Rattle.gp_stack.proofs.Costs.{cost_skip}
 use Rattle.gp_stack.proofs.Settle.{left_end, falls_end, left_looped, cost_looped, left_called, cost_called, shared_settled}
@@ -12,7 +12,6 @@ returns-in-End-clause-left c = left_end c.args.program.now c.args.self.now.top (
 
 pub returns-in-End-clause-falls : goal.returns-in-End-clause-falls
 returns-in-End-clause-falls c = falls_end c.args.program.now c.args.self.now.top (reverse c.args.self.now.outer.items) (levels c.leave.new.self) c.leave.result c.in-End.ensures.ahead c.leave.ensures.left
-
 
 pub returns-then-n-eq0-clause-left : goal.returns-then-n-eq0-clause-left
 returns-then-n-eq0-clause-left c = rw c.skip.ensures.levels (left_skip c.args.program.now c.args.self.now.top (reverse c.args.self.now.outer.items) (Work c.in-Work.n) c.in-Work.ensures.ahead (ap (λ n. added c.args.program.now c.args.self.now.top (line_of c.in-Work.ensures.ahead.statement) (Work n)) c.if-n-eq0.true))
