@@ -1,2 +1,13 @@
-pub mod Positions
-pub mod Work
+pub mod BareBodies
+pub mod Sizes
+pub mod Points
+pub mod Frames
+pub mod Tables
+pub mod Marks
+pub mod First
+pub mod Rows
+pub mod Named
+pub mod Leads
+pub mod Lengths
+pub mod Depth
+pub mod Examples

@@ -1,13 +1,10 @@
 -- What a program has beside parts in their limits: the function `main`, and no empty body.
-use Rattle.std.specs.Prelude.{◌≡◌, ℕ, zero, suc, Bool, true, false, ◌||◌, List, [], ◌∷◌, All, Option, Some, None, IsSome, codes, position}
+use Rattle.std.specs.Prelude.{ℕ, zero, suc, Bool, true, false, ◌||◌, List, [], ◌∷◌, Option, codes, position}
 use Rattle.std.specs.List.{list_any}
 use Rattle.std.specs.Str.{bytes_eq}
-use Rattle.gp_isa.specs.declared.bad.Bad.{Bad}
-use Rattle.gp_isa.specs.declared.bad.Bad.TheVariants.{NoMain, Empty, Recursion, TooLong, Memory}
 use Rattle.gp_isa.specs.declared.parts.Parts.{Parts}
-use Rattle.gp_isa.specs.declared.parts.Function.{Function}
 use Rattle.gp_isa.specs.declared.statement.Stmt.{Stmt}
-use Rattle.gp_isa.specs.declared.statement.What.TheOpen.{Work, Loop}
+use Rattle.gp_isa.specs.declared.statement.What.TheOpen.{Loop}
 use Rattle.gp_isa.specs.Statement.{Action, action_of}
 
 -- the number of the function `main`, where there is one
@@ -31,26 +28,3 @@ lacks_statement (suc deep) body = is_nil body || list_any (λ s. loop_lacks (lac
 -- the first function in which it or one of its loops has no statement
 abbrev pub first_empty : Parts → Option ℕ
 first_empty parts = position (λ f. lacks_statement 8 f.body) parts.functions
-
--- What every program keeps.
-pub record IsChecked (parts : Parts) : Type 0 where
-  pub has_main : IsSome (main_of parts)
-  pub none_empty : first_empty parts ≡ None
-
--- Why parts are no program: main comes first, and nothing is said of want of memory. Of the other causes
--- none comes in programs of `work` alone.
-abbrev pub IsFault : Parts → Bad → Type 0
-IsFault parts NoMain = main_of parts ≡ None
-IsFault parts (Empty f) = IsSome (main_of parts) × (first_empty parts ≡ Some f)
-IsFault parts (Recursion f) = ⊥
-IsFault parts (TooLong f) = ⊥
-IsFault parts Memory = Unit {0}
-
--- a statement of work
-abbrev pub IsWork : Action → Type 0
-IsWork (Work n) = Unit {0}
-IsWork _ = ⊥
-
--- all statements are work
-abbrev pub AreWork : Parts → Type 0
-AreWork parts = All (λ (f : Function). All (λ s. IsWork (action_of s)) f.body) parts.functions

@@ -1,11 +1,11 @@
 -- The trace of a function: the points that whoever runs it passes, one after another. The code never builds this
 -- list.
-use Rattle.std.specs.Prelude.{ℕ, zero, suc, Bool, true, false, List, [], ◌∷◌, ◌++◌, length, map, replicate, Option, Some, None, slice_get}
+use Rattle.std.specs.Prelude.{◌≡◌, refl, ℕ, zero, suc, Bool, true, false, List, [], ◌∷◌, ◌++◌, length, map, replicate, Some, None, slice_get}
 use Rattle.std.specs.List.{flat_map}
 use Rattle.gp_isa.specs.declared.frame.Frame.{Frame}
 use Rattle.gp_isa.specs.declared.parts.Parts.{Parts}
 use Rattle.gp_isa.specs.declared.statement.Stmt.{Stmt}
-use Rattle.gp_isa.specs.declared.statement.What.TheOpen.{What-F, Work, Call, Loop, Send as SendStatement, Recv as RecvStatement, Lock as LockStatement, Unlock as UnlockStatement, Spawn as SpawnStatement, Labels as LabelsStatement}
+use Rattle.gp_isa.specs.declared.statement.What.TheOpen.{Work, Call, Loop, Send as SendStatement, Recv as RecvStatement, Lock as LockStatement, Unlock as UnlockStatement, Spawn as SpawnStatement, Labels as LabelsStatement}
 use Rattle.gp_isa.specs.Statement.{Action, action_of, line_of}
 
 -- What is done at a point: an instruction of work, or that the goroutine's labels become a set; these two are
@@ -85,3 +85,10 @@ trace_within parts (suc depth) f = points_of parts (trace_within parts depth) f
 -- The trace of function f. Where no function can call itself, calls go no deeper than there are functions.
 unfoldable pub trace : Parts → ℕ → List Point
 trace parts f = trace_within parts (length parts.functions) f
+
+-- Two examples at line 3 of function 0: a call of a function with one point, and a loop of two turns.
+a_call : points_at (λ h. point_at h 8 Local ∷ []) (λ body. []) 0 3 (Call 1) ≡ record { stack = record { function = 1; line = 8 } ∷ record { function = 0; line = 3 } ∷ []; instruction = Local } ∷ []
+a_call = refl
+
+a_loop : points_at (λ h. []) (λ body. point_at 0 4 (Send 0) ∷ []) 0 3 (Loop 2 [] 5) ≡ point_at 0 4 (Send 0) ∷ point_at 0 4 (Send 0) ∷ []
+a_loop = refl

@@ -1,9 +1,15 @@
-ghost use Rattle.std.specs.Prelude.{◌≡◌, ◌<◌, length, position, IfOk, IfErr, IfSome, OnOk, Some};
+ghost use Rattle.std.specs.Prelude.{◌≡◌, ◌<◌, length, IfOk, IfErr, IfSome, OnOk, Some};
 ghost use Rattle.gp_isa.specs.Limits.{AreInLimits};
-ghost use Rattle.gp_isa.specs.Checked.{IsChecked, IsFault, AreWork, main_of, is_nil, first_empty};
+ghost use Rattle.gp_isa.specs.Checked.{main_of};
+ghost use Rattle.gp_isa.specs.Calls.{IsProgram, IsCause};
+ghost use Rattle.gp_isa.specs.Trace.{trace};
+ghost use Rattle.gp_isa.specs.Size.{depth_of};
 
 use crate::bad::Bad;
+use crate::calls::recursive_place;
+use crate::empty::empty_place;
 use crate::parts::Parts;
+use crate::size::{Size, long_place, most_frames, trace_sizes};
 use std::alloc::Global;
 use std::marker::Model;
 
@@ -11,6 +17,9 @@ use std::marker::Model;
 #[derive(Debug, Drop)]
 pub struct Program {
     parts: Parts,
+    /// Of each function's trace.
+    sizes: Vec<Size>,
+    depth: u32,
 }
 
 impl Model for Program {
@@ -23,12 +32,11 @@ impl Model for Program {
 
     ghost coded = { Prim.hlevel (codes, what.the_row.coded) };
 
-    ghost use Rattle.gp_isa.specs.Limits.{AreInLimits};
-    ghost use Rattle.gp_isa.specs.Checked.{IsChecked};
+    ghost use Rattle.gp_isa.specs.Kept.{KeepsSizes};
 
     ghost view = { λ p. p.parts };
 
-    ghost invariant = { λ p. AreInLimits p.parts × IsChecked p.parts };
+    ghost invariant = { λ p. KeepsSizes p.parts p.sizes.items p.depth };
 }
 
 fn main_place(parts: &Parts) -> Option<usize>
@@ -41,29 +49,12 @@ fn main_place(parts: &Parts) -> Option<usize>
         .position(|f| f.name.as_str() == "main")
 }
 
-// The first function without a statement of its own.
-fn bare_place(parts: &Parts) -> Option<usize>
-    ensures place { result ≡ position (λ f. is_nil f.body) parts.now.functions }
-    ensures within { IfSome result (λ f. f < length parts.now.functions) }
-{
-    parts.functions.iter().position(|f| f.body.is_empty())
-}
-
-// Where all statements are work, there are no loops to look into.
-fn empty_place(parts: &Parts) -> Option<usize>
-    requires { AreWork parts.now }
-    ensures place { result ≡ first_empty parts.now }
-    ensures within { IfSome result (λ f. f < length parts.now.functions) }
-{
-    bare_place(parts)
-}
-
 impl Program {
     /// The parts that were checked.
     pub fn parts(&self) -> &Parts
         ensures parts { result.now ≡ self.now }
         ensures limits { AreInLimits self.now }
-        ensures checked { IsChecked self.now }
+        ensures checked { IsProgram self.now }
     {
         let _ = &self.parts;
         &self.parts
@@ -75,23 +66,54 @@ impl Program {
     {
         main_place(&self.parts).unwrap() as u32
     }
+
+    /// The most frames of any stack, over all functions, those that `main` never reaches too.
+    pub fn depth(&self) -> u32
+        ensures { result ≡ depth_of self.now }
+    {
+        self.depth
+    }
+
+    /// The number of points of the trace of function `f`, at most 2^40.
+    pub fn length(&self, f: u32) -> u64
+        requires { f < length self.now.functions }
+        ensures { result ≡ length (trace self.now f) }
+    {
+        self.sizes[f as usize].points
+    }
 }
 
-/// Checks the parts of a program file: `main` has to be there, and no function may be empty.
-pub fn check(_alloc: Global, parts: Parts) -> Result<Program, Bad>
-    requires limits { AreInLimits parts }
-    requires work { AreWork parts }
+/// Checks the parts of a program file. They are tested for `main`, for bodies without a statement, for functions
+/// that can call themselves and for traces that are too long, in this order.
+pub fn check(alloc: Global, parts: Parts) -> Result<Program, Bad>
+    requires { AreInLimits parts }
     ensures ok { IfOk result (λ program. program ≡ parts) }
-    ensures checked { OnOk result (IsChecked parts) }
-    ensures fault { IfErr result (IsFault parts) }
+    ensures checked { OnOk result (IsProgram parts) }
+    ensures fault { IfErr result (IsCause parts) }
 {
     if main_place(&parts).is_none() {
         return Err(Bad::NoMain);
     }
-    match empty_place(&parts) {
-        Some(function) => Err(Bad::Empty {
+    if let Some(function) = empty_place(&parts) {
+        return Err(Bad::Empty {
             function: function as u32,
-        }),
-        None => Ok(Program { parts }),
+        });
     }
+    if let Some(function) = recursive_place(alloc, &parts)? {
+        return Err(Bad::Recursion {
+            function: function as u32,
+        });
+    }
+    let sizes = trace_sizes(alloc, &parts)?;
+    if let Some(function) = long_place(sizes.as_slice()) {
+        return Err(Bad::TooLong {
+            function: function as u32,
+        });
+    }
+    let depth = most_frames(sizes.as_slice());
+    Ok(Program {
+        parts,
+        sizes,
+        depth,
+    })
 }

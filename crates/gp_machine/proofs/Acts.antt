@@ -1,5 +1,5 @@
 -- What an Op can do, as a list of cases, so that each law goes over them once.
-use Rattle.std.proofs.Common.{◌≡◌, ◌⊎◌, ℕ, ◌+◌, ◌<◌, ◌≤◌, Bool, true, false, List, set, Some, refl, subst, arith, if◌then◌else◌, nat_lt}
+use Rattle.std.proofs.Common.{◌≡◌, ℕ, ◌<◌, ◌≤◌, Bool, true, false, List, set, refl, arith, if◌then◌else◌, nat_lt}
 use Rattle.std.proofs.lemmas.Bool.{ltb-true}
 use Rattle.gp_isa.specs.Trace.{Instruction, Local, Labels, Send, Recv, Lock, Unlock, Spawn}
 use Rattle.gp_sync.specs.declared.effect.Effect.{Effect}
@@ -7,12 +7,12 @@ use Rattle.gp_sync.specs.declared.effect.Effect.TheVariants.{Done, Blocks, Wakes
 use Rattle.gp_sync.specs.Operations.{Channel, Mutex, send, recv, lock, unlock}
 use Rattle.gp_machine.specs.declared.goroutine.Status.TheVariants.{Blocked}
 use Rattle.gp_machine.specs.declared.settings.Settings.{Settings}
-use Rattle.gp_machine.specs.State.{Code, State, goroutine, worker, channel, mutex, births}
+use Rattle.gp_machine.specs.State.{Code, State, goroutine, channel, mutex, births}
 use Rattle.gp_machine.specs.Due.{next_instruction}
 use Rattle.gp_machine.specs.Effect.{with_goroutine, unmarked, passes, blocks, faults, wakes, bears, meets, operates, waiter, acts}
 use Rattle.gp_machine.specs.Waiting.{places_of}
-use Rattle.gp_machine.proofs.Whole.{seats, Whole, IsWhole}
-use Rattle.gp_machine.proofs.Parts.{one_if, one_if_eq, Balances, with_lines, blocked_by}
+use Rattle.gp_machine.proofs.Whole.{seats, IsWhole}
+use Rattle.gp_machine.proofs.Parts.{one_if_eq, Balances, with_lines, blocked_by}
 use Rattle.gp_machine.proofs.Lines.{send_moves, recv_moves, lock_moves, unlock_moves}
 
 -- The state after an Op of g on w is one of these, whatever the lines are then.

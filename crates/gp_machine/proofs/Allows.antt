@@ -1,6 +1,6 @@
 -- A test that decides which entries are legal, for the worked journals.
-use Rattle.std.proofs.Common.{◌≡◌, ◌⊎◌, ℕ, ◌+◌, ◌<◌, ◌≤◌, Bool, true, false, not, ◌&&◌, ◌||◌, ◌==◌, List, [], ◌∷◌, Some, None, Option, refl, sym, ap, ◌∙◌, true≢false, nat_lt, nat_le, count_by, eqb-true, eq-eqb}
-use Rattle.std.proofs.lemmas.Bool.{and_parts, and_from, not-true, ltb-true, leb-true, lt-ltb, le-leb, not_from_false}
+use Rattle.std.proofs.Common.{◌≡◌, ℕ, ◌+◌, Bool, true, false, not, ◌&&◌, ◌||◌, ◌==◌, List, [], ◌∷◌, Some, None, Option, refl, sym, ap, ◌∙◌, true≢false, nat_lt, nat_le, count_by, eqb-true, eq-eqb}
+use Rattle.std.proofs.lemmas.Bool.{and_parts, and_from, not-true, ltb-true, leb-true, lt-ltb, le-leb}
 use Rattle.gp_machine.specs.declared.entry.Entry.{Entry}
 use Rattle.gp_machine.specs.declared.entry.Entry.TheVariants.{Start, Run, Op, Tick, Park, Open, Refuse, Record, Close}
 use Rattle.gp_machine.specs.declared.goroutine.Status.{Status}
@@ -8,9 +8,9 @@ use Rattle.gp_machine.specs.declared.goroutine.Status.TheVariants.{Runnable, Run
 use Rattle.gp_machine.specs.declared.settings.Settings.{Settings}
 use Rattle.gp_machine.specs.State.{Code, State, goroutine, worker, is_runnable, is_idle, is_behind, live, running}
 use Rattle.gp_machine.specs.Due.{asked, over, due}
-use Rattle.gp_machine.specs.May.{May, MayStart, IsDue, MayOpen, MayRefuse, MayRecord, MayClose, is_recorded}
+use Rattle.gp_machine.specs.May.{May, IsDue, is_recorded}
 use Rattle.gp_machine.specs.Effect.{after}
-use Rattle.gp_machine.specs.Run.{AreLegal, IsLegal}
+use Rattle.gp_machine.specs.Run.{AreLegal}
 
 abbrev holds_number : ℕ → Option ℕ → Bool
 holds_number g None = false

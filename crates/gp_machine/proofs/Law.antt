@@ -1,30 +1,25 @@
 -- The journal law.
-use Rattle.std.proofs.Common.{◌≡◌, ◌⊎◌, ℕ, ◌+◌, ◌<◌, ◌≤◌, Bool, true, false, not, ◌&&◌, cond, List, [], ◌∷◌, ◌++◌, length, get_or, set, take, replicate, count_by, sum_by, Some, None, refl, sym, ap, ◌∙◌, subst, inl, inr, arith, zero, suc, true≢false, get_or-set_same}
-use Rattle.std.proofs.lemmas.List.{get_or_past, get_or-replicate}
-use Rattle.std.proofs.lemmas.Bool.{cases_lt, and_right, and_left, lt-ltb}
+use Rattle.std.proofs.Common.{◌≡◌, ◌⊎◌, ℕ, ◌+◌, ◌<◌, Bool, true, false, not, List, [], ◌∷◌, ◌++◌, get_or, take, replicate, sum_by, Some, None, refl, sym, ap, ◌∙◌, subst, inl, inr, arith, zero, suc, true≢false}
+use Rattle.std.proofs.lemmas.Bool.{and_left}
 use Rattle.std.proofs.lemmas.List.Sums.{sum_by-cons}
-use Rattle.gp_sync.specs.Operations.{Channel, Mutex, empty_channel, free_mutex}
-use Rattle.gp_stack.specs.declared.record.Record.{Record as Row}
-use Rattle.gp_stack.specs.Goroutine.{stack_of, labels_of}
+use Rattle.gp_sync.specs.Operations.{empty_channel, free_mutex}
 use Rattle.gp_machine.specs.declared.entry.Entry.{Entry}
 use Rattle.gp_machine.specs.declared.entry.Entry.TheVariants.{Start, Run, Op, Tick, Park, Open, Refuse, Record, Close}
 use Rattle.gp_machine.specs.declared.goroutine.Goroutine.{Goroutine}
-use Rattle.gp_machine.specs.declared.goroutine.Worker.{Worker}
 use Rattle.gp_machine.specs.declared.goroutine.Status.TheVariants.{Runnable, Running, Blocked, Faulted, Dead}
 use Rattle.gp_machine.specs.declared.settings.Settings.{Settings}
-use Rattle.gp_machine.specs.State.{Code, State, nobody, resting, goroutine, worker, is_running, is_live, is_dead, is_behind, points_of, first, main_goroutine}
-use Rattle.gp_machine.specs.May.{May, MayOpen, MayRecord, MayClose}
-use Rattle.gp_machine.specs.Effect.{recorded, with_goroutine, acts, after, labels_at}
-use Rattle.gp_machine.specs.Run.{AreLegal, IsLegal, after_all, last, at}
-use Rattle.gp_machine.specs.Frozen.{row, rows_from, frozen, rows_taken, inserted, sorted}
+use Rattle.gp_machine.specs.State.{Code, State, nobody, resting, goroutine, is_running, is_live, is_dead, is_behind, first, main_goroutine}
+use Rattle.gp_machine.specs.May.{May, MayOpen, MayRecord}
+use Rattle.gp_machine.specs.Effect.{recorded, after}
+use Rattle.gp_machine.specs.Run.{AreLegal, after_all, last, at}
+use Rattle.gp_machine.specs.Frozen.{row, rows_taken, inserted, sorted}
 use Rattle.gp_machine.specs.Waiting.{in_channel, in_mutex, places_of}
 use Rattle.gp_machine.specs.JournalLaw.{KeepsEpochs, StandsAs, has_close, EpochsHold, UnrecordedStand, RowsAreFrozen}
 use Rattle.gp_machine.proofs.Places.{changed, none_counted}
-use Rattle.gp_machine.proofs.Whole.{seats, Whole, IsWhole, Fits, Behind}
-use Rattle.gp_machine.proofs.Parts.{live_status}
-use Rattle.gp_machine.proofs.Acts.{Cases, acts_all}
-use Rattle.gp_machine.proofs.Steps.{step_whole, behind_parts, behind_from, active_last, none_active}
-use Rattle.gp_machine.proofs.Rows.{SamePlace, SameBehind, Settled, IsQuiet, step_settled, not_behind, missing, missing_same, missing_insert, missing_none, missing_all}
+use Rattle.gp_machine.proofs.Whole.{IsWhole, Behind}
+use Rattle.gp_machine.proofs.Acts.{acts_all}
+use Rattle.gp_machine.proofs.Steps.{step_whole, behind_from, active_last, none_active}
+use Rattle.gp_machine.proofs.Rows.{SamePlace, Settled, IsQuiet, step_settled, not_behind, missing, missing_same, missing_insert, missing_none, missing_all}
 
 -- The first state is whole.
 nothing_summed : {X : Type 0} (f : X → ℕ) (x : X) (n : ℕ) → f x ≡ 0 → sum_by f (replicate n x) ≡ 0
@@ -88,12 +83,15 @@ keeps_epochs s whole = record {
         by Blocked e = refl
         by Faulted e = refl
         by Dead e = e
+
     runs_last : (g : ℕ) → 0 < s.active → is_running (goroutine s g).status ≡ true → ((goroutine s g).epoch ≡ s.last_epoch) ⊎ Behind s.active s.last_epoch (goroutine s g) → (goroutine s g).epoch ≡ s.active
     runs_last g some e (inl same) = same ∙ sym (active_last s whole some)
     runs_last g some e (inr behind) = absurd (true≢false (sym e ∙ behind.2))
+
     near : (g : ℕ) → 0 < s.active → ((goroutine s g).epoch ≡ s.last_epoch) ⊎ Behind s.active s.last_epoch (goroutine s g) → ((goroutine s g).epoch ≡ s.active) ⊎ ((goroutine s g).epoch + 1 ≡ s.active)
     near g some (inl same) = inl (same ∙ sym (active_last s whole some))
     near g some (inr behind) = inr (behind.1 ∙ sym (active_last s whole some))
+
     same : (g : ℕ) → s.active ≡ 0 → ((goroutine s g).epoch ≡ s.last_epoch) ⊎ Behind s.active s.last_epoch (goroutine s g) → (goroutine s g).epoch ≡ s.last_epoch
     same g none (inl e) = e
     same g none (inr behind) = let some = behind.0 in absurd (omega arith)
@@ -103,7 +101,7 @@ epochs_hold code settings journal k legal =
     keeps_epochs (at code settings journal k) (all_whole code settings (first code settings) (take k journal) (first_whole code settings) (prefix_legal code settings (first code settings) k journal legal))
 
 -- a quiet entry leaves the active profile
-quiet_active : (code : Code) (settings : Settings) (s : State) (entry : Entry) → IsWhole s → May code settings s entry → IsQuiet entry → (after code settings s entry).active ≡ s.active
+pub quiet_active : (code : Code) (settings : Settings) (s : State) (entry : Entry) → IsWhole s → May code settings s entry → IsQuiet entry → (after code settings s entry).active ≡ s.active
 unfolding after
 quiet_active code settings s (Start w g) whole may quiet = refl
 quiet_active code settings s (Run w g n) whole may quiet = refl
@@ -149,7 +147,7 @@ unfolding after
 record_taken code settings s actor g entries whole may taken =
     ap (inserted (row code g (goroutine s g))) taken
     ∙ missing_insert code s.active 0 g g s.goroutines (recorded s.active (goroutine s g)) (omega arith) may.unrecorded
-        (not_behind s.active (recorded s.active (goroutine s g)) (omega arith))
+    (not_behind s.active (recorded s.active (goroutine s g)) (omega arith))
 
 none_opens : (settings : Settings) (s : State) (epoch room : ℕ) → 0 < s.active → MayOpen settings s epoch room → ⊥
 none_opens settings s epoch room some may = let none = none_active settings s may.is_asked in omega arith
@@ -161,7 +159,7 @@ all_taken code settings (Close epoch ∷ entries) closes s whole some legal =
 all_taken code settings (Open epoch room ∷ entries) closes s whole some legal = absurd (none_opens settings s epoch room some legal.0)
 all_taken code settings (Record actor g ∷ entries) closes s whole some legal =
     record_taken code settings s actor g entries whole legal.0
-        (all_taken code settings entries closes (after code settings s (Record actor g)) (step_whole code settings s (Record actor g) whole legal.0) (record_active code settings s actor g some) legal.1)
+    (all_taken code settings entries closes (after code settings s (Record actor g)) (step_whole code settings s (Record actor g) whole legal.0) (record_active code settings s actor g some) legal.1)
 all_taken code settings (Start w g ∷ entries) closes s whole some legal = quiet_taken code settings s (Start w g) entries whole some legal tt (all_taken code settings entries closes)
 all_taken code settings (Run w g n ∷ entries) closes s whole some legal = quiet_taken code settings s (Run w g n) entries whole some legal tt (all_taken code settings entries closes)
 all_taken code settings (Op w g ∷ entries) closes s whole some legal = quiet_taken code settings s (Op w g) entries whole some legal tt (all_taken code settings entries closes)
@@ -176,6 +174,7 @@ all_behind settings epoch room s whole may k = by (is_live (goroutine s k)) refl
     below : ((goroutine s k).epoch ≡ s.last_epoch) ⊎ Behind s.active s.last_epoch (goroutine s k) → (goroutine s k).epoch < epoch
     below (inl same) = let e = may.next_epoch in omega arith
     below (inr behind) = let none = none_active settings s may.is_asked in let some = behind.0 in absurd (omega arith)
+
     by : (b : Bool) → is_live (goroutine s k) ≡ b → is_behind epoch (goroutine s k) ≡ b
     by true live = behind_from epoch (goroutine s k) live (below (whole.epochs k live))
     by false dead = and_left (is_live (goroutine s k)) _ dead
@@ -229,8 +228,8 @@ follows_record : (code : Code) (settings : Settings) (s : State) (actor g : ℕ)
 unfolding Follows after
 follows_record code settings s actor g =
     changed (λ k x. is_behind s.active x ≡ true → StoodBehind s.active (goroutine s k) x) nobody s.goroutines g (recorded s.active (goroutine s g))
-        (λ behind. absurd (true≢false (sym behind ∙ not_behind s.active (recorded s.active (goroutine s g)) (omega arith))))
-        (λ k behind. record { was = behind; place = record { start = refl; inherited = refl; count = refl } })
+    (λ behind. absurd (true≢false (sym behind ∙ not_behind s.active (recorded s.active (goroutine s g)) (omega arith))))
+    (λ k behind. record { was = behind; place = record { start = refl; inherited = refl; count = refl } })
 
 record_same_active : (code : Code) (settings : Settings) (s : State) (actor g : ℕ) → (after code settings s (Record actor g)).active ≡ s.active
 unfolding after
@@ -245,14 +244,14 @@ after_entry code settings s entry entries whole some legal same first_step rest 
     let t = after code settings s entry in
     let more = rest t (step_whole code settings s entry whole legal.0) (subst (λ a. 0 < a) (sym same) some) legal.1 in
     follows_again s.active s.goroutines t.goroutines (after_all code settings t entries).goroutines first_step
-        (subst (λ a. Follows a t.goroutines (after_all code settings t entries).goroutines) same more)
+    (subst (λ a. Follows a t.goroutines (after_all code settings t entries).goroutines) same more)
 
 quiet_follows : (code : Code) (settings : Settings) (s : State) (entry : Entry) (entries : List Entry) → IsWhole s → 0 < s.active → May code settings s entry × AreLegal code settings (after code settings s entry) entries → IsQuiet entry →
     ((t : State) → IsWhole t → 0 < t.active → AreLegal code settings t entries → Follows t.active t.goroutines (after_all code settings t entries).goroutines) →
     Follows s.active s.goroutines (after_all code settings (after code settings s entry) entries).goroutines
 quiet_follows code settings s entry entries whole some legal quiet rest =
     after_entry code settings s entry entries whole some legal (quiet_active code settings s entry whole legal.0 quiet)
-        (follows_settled s.active s.goroutines (after code settings s entry).goroutines (step_settled code settings s entry whole legal.0 quiet)) rest
+    (follows_settled s.active s.goroutines (after code settings s entry).goroutines (step_settled code settings s entry whole legal.0 quiet)) rest
 
 all_follow : (code : Code) (settings : Settings) (entries : List Entry) → has_close entries ≡ false → (s : State) → IsWhole s → 0 < s.active → AreLegal code settings s entries → Follows s.active s.goroutines (after_all code settings s entries).goroutines
 all_follow code settings [] none s whole some legal = follows_same s.active s.goroutines
@@ -289,4 +288,4 @@ unrecorded_stand code settings before epoch room during g legal none live below 
     let all = all_follow code settings during none t (step_whole code settings s e whole from_here.0) some from_here.1 in
     let stood : Follows epoch s.goroutines now.goroutines = subst (λ gs. Follows epoch gs now.goroutines) o.same_goroutines (subst (λ a. Follows a t.goroutines now.goroutines) o.now_active all) in
     subst (λ u. is_live (goroutine u g) ≡ true → (goroutine u g).epoch + 1 ≡ epoch → StandsAs code s u g) (sym here)
-        (λ lives under. stands code s now g ((stood g (behind_from epoch (goroutine now g) lives (omega arith))).place)) live below
+    (λ lives under. stands code s now g ((stood g (behind_from epoch (goroutine now g) lives (omega arith))).place)) live below

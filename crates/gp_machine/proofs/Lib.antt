@@ -7,3 +7,10 @@ pub mod Acts
 pub mod Rows
 pub mod Law
 pub mod Allows
+pub mod Journals
+pub mod Going
+pub mod Counting
+pub mod Fates
+pub mod Bound
+pub mod Totals
+pub mod Clocks

@@ -1,5 +1,5 @@
 -- What operations do to the lines of channels and mutexes.
-use Rattle.std.proofs.Common.{◌≡◌, ◌⊎◌, ℕ, ◌+◌, ◌<◌, ◌≤◌, Bool, true, false, cond, List, [], ◌∷◌, ◌++◌, get_or, set, sum_by, refl, sym, ap, ◌∙◌, ◌-◌, arith, nat_lt, if◌then◌else◌, ◌==◌}
+use Rattle.std.proofs.Common.{◌≡◌, ℕ, ◌+◌, ◌≤◌, Bool, true, false, cond, List, [], ◌∷◌, ◌++◌, get_or, set, refl, ap, ◌∙◌, ◌-◌, arith, nat_lt, if◌then◌else◌, ◌==◌}
 use Rattle.std.proofs.lemmas.List.Sums.{sum_by-cons, sum_by_push}
 use Rattle.gp_sync.specs.declared.effect.Effect.{Effect}
 use Rattle.gp_sync.specs.declared.effect.Effect.TheVariants.{Done, Blocks, Wakes, Fault}
@@ -77,25 +77,25 @@ module _ (cs : List Channel) (ms : List Mutex) (me : Waiter) (k : ℕ) where
       let channel = get_or cs c empty_channel in
       let outcome = send capacity channel me in
       lifted outcome.0 me.g k (places_of cs ms k) (places_of (set cs c outcome.1) ms k) (in_channel k channel) (in_channel k outcome.1)
-          (channel_sum k c outcome.1 cs ms) (send_balances k channel.receivers capacity channel me refl)
+      (channel_sum k c outcome.1 cs ms) (send_balances k channel.receivers capacity channel me refl)
 
   pub recv_moves : (c : ℕ) → let outcome = recv (get_or cs c empty_channel) me in Balances outcome.0 me.g k (places_of cs ms k) (places_of (set cs c outcome.1) ms k)
   recv_moves c =
       let channel = get_or cs c empty_channel in
       let outcome = recv channel me in
       lifted outcome.0 me.g k (places_of cs ms k) (places_of (set cs c outcome.1) ms k) (in_channel k channel) (in_channel k outcome.1)
-          (channel_sum k c outcome.1 cs ms) (recv_balances k channel.senders channel me refl)
+      (channel_sum k c outcome.1 cs ms) (recv_balances k channel.senders channel me refl)
 
   pub lock_moves : (m : ℕ) → let outcome = lock (get_or ms m free_mutex) me in Balances outcome.0 me.g k (places_of cs ms k) (places_of cs (set ms m outcome.1) k)
   lock_moves m =
       let mutex = get_or ms m free_mutex in
       let outcome = lock mutex me in
       lifted outcome.0 me.g k (places_of cs ms k) (places_of cs (set ms m outcome.1) k) (in_mutex k mutex) (in_mutex k outcome.1)
-          (mutex_sum k m outcome.1 cs ms) (lock_balances k mutex.held mutex me)
+      (mutex_sum k m outcome.1 cs ms) (lock_balances k mutex.held mutex me)
 
   pub unlock_moves : (m : ℕ) → let outcome = unlock (get_or ms m free_mutex) in Balances outcome.0 me.g k (places_of cs ms k) (places_of cs (set ms m outcome.1) k)
   unlock_moves m =
       let mutex = get_or ms m free_mutex in
       let outcome = unlock mutex in
       lifted outcome.0 me.g k (places_of cs ms k) (places_of cs (set ms m outcome.1) k) (in_mutex k mutex) (in_mutex k outcome.1)
-          (mutex_sum k m outcome.1 cs ms) (unlock_balances k me.g mutex.held mutex)
+      (mutex_sum k m outcome.1 cs ms) (unlock_balances k me.g mutex.held mutex)

@@ -1,8 +1,6 @@
 -- Each part of an effect keeps a state whole.
-use Rattle.std.proofs.Common.{◌≡◌, ◌⊎◌, ℕ, ◌+◌, ◌<◌, ◌≤◌, Bool, true, false, not, ◌&&◌, ◌||◌, ◌==◌, cond, List, [], ◌∷◌, ◌++◌, length, get_or, set, count_by, sum_by, Some, None, refl, sym, ap, ◌∙◌, subst, inl, inr, arith, zero, suc, true≢false, if◌then◌else◌, eqb}
+use Rattle.std.proofs.Common.{◌≡◌, ◌⊎◌, ℕ, ◌+◌, ◌≤◌, Bool, true, false, not, ◌==◌, cond, List, set, Some, None, refl, sym, ap, ◌∙◌, subst, inl, inr, arith, true≢false, if◌then◌else◌}
 use Rattle.std.proofs.lemmas.Bool.{ne_eqb, eq-eqb}
-use Rattle.gp_isa.specs.Trace.{Instruction, Local, Labels, Send, Recv, Lock, Unlock, Spawn}
-use Rattle.gp_stack.specs.Goroutine.{is_ended, labels_of}
 use Rattle.gp_sync.specs.declared.effect.Effect.{Effect}
 use Rattle.gp_sync.specs.declared.effect.Effect.TheVariants.{Done, Blocks, Wakes, Fault}
 use Rattle.gp_sync.specs.Operations.{Channel, Mutex}
@@ -11,11 +9,11 @@ use Rattle.gp_machine.specs.declared.goroutine.Status.{Status}
 use Rattle.gp_machine.specs.declared.goroutine.Status.TheVariants.{Runnable, Running, Blocked, Faulted, Dead}
 use Rattle.gp_machine.specs.declared.goroutine.Worker.{Worker}
 use Rattle.gp_machine.specs.declared.settings.Settings.{Settings}
-use Rattle.gp_machine.specs.State.{Code, State, nobody, resting, goroutine, worker, is_running, is_dead, is_live, points_of, births}
-use Rattle.gp_machine.specs.Effect.{turned, passed, is_over_after, unmarked, blocked_at, woken_at, newborn, started, left, worked, with_goroutine, with_worker, starts, leaves, passes, blocks, faults, wakes, bears, resumes, meets}
+use Rattle.gp_machine.specs.State.{Code, State, nobody, resting, goroutine, worker, is_running, is_dead, is_live}
+use Rattle.gp_machine.specs.Effect.{turned, is_over_after, unmarked, blocked_at, woken_at, left, worked, with_goroutine, with_worker, passes, wakes, resumes, meets}
 use Rattle.gp_machine.specs.Waiting.{places_of}
-use Rattle.gp_machine.proofs.Places.{changed, replaced, replaced_within}
-use Rattle.gp_machine.proofs.Whole.{seats, Behind, Fits, Whole, IsWhole, some_same, Running-same, live_within, unloads, keeps_running, keeps_standing, frees, gains, lines}
+use Rattle.gp_machine.proofs.Places.{replaced, replaced_within}
+use Rattle.gp_machine.proofs.Whole.{seats, Behind, IsWhole, Running-same, live_within, unloads, keeps_running, keeps_standing, frees, lines}
 
 pub live_status : {st : Status} (x : Goroutine) → x.status ≡ st → is_dead st ≡ false → is_live x ≡ true
 live_status x e alive = ap (λ t. not (is_dead t)) e ∙ ap not alive
@@ -35,18 +33,18 @@ not_waiting s w g n whole e = let none = subst (λ t. places_of s.channels s.mut
 pub off : (s : State) (w g : ℕ) (y : Goroutine) (v : Worker) → IsWhole s → (worker s w).runs ≡ Some g → y.epoch ≡ (goroutine s g).epoch → v.runs ≡ None → IsWhole (with_worker w v (with_goroutine g y s))
 off s w g y v whole runs epoch none =
     frees s.goroutines (set s.workers w v) s.channels s.mutexes s.active s.last_epoch
-        (unloads s.goroutines s.workers s.channels s.mutexes s.active s.last_epoch whole w v none)
-        g y
-        (replaced (λ n u. u.runs ≡ Some g → ⊥) resting s.workers w v (λ e. absurd (cc)) (λ e. absurd (cc))
-            (λ n other e. other (Running-same (sym (whole.on_worker n g e) ∙ whole.on_worker w g runs))))
-        (not_waiting s w g (seats y.status) whole (whole.on_worker w g runs))
-        (λ live. inl (epoch ∙ running_last s w g whole (whole.on_worker w g runs)))
+    (unloads s.goroutines s.workers s.channels s.mutexes s.active s.last_epoch whole w v none)
+    g y
+    (replaced (λ n u. u.runs ≡ Some g → ⊥) resting s.workers w v (λ e. absurd (cc)) (λ e. absurd (cc))
+    (λ n other e. other (Running-same (sym (whole.on_worker n g e) ∙ whole.on_worker w g runs))))
+    (not_waiting s w g (seats y.status) whole (whole.on_worker w g runs))
+    (λ live. inl (epoch ∙ running_last s w g whole (whole.on_worker w g runs)))
 
 -- g goes on running on w
 pub on : (s : State) (w g : ℕ) (y : Goroutine) (v : Worker) → IsWhole s → y.status ≡ (goroutine s g).status → y.epoch ≡ (goroutine s g).epoch → v.runs ≡ (worker s w).runs → IsWhole (with_worker w v (with_goroutine g y s))
 on s w g y v whole status epoch runs =
     keeps_running (set s.goroutines g y) s.workers s.channels s.mutexes s.active s.last_epoch
-        (keeps_standing s.goroutines s.workers s.channels s.mutexes s.active s.last_epoch whole g y status epoch) w v runs
+    (keeps_standing s.goroutines s.workers s.channels s.mutexes s.active s.last_epoch whole g y status epoch) w v runs
 
 pass_at : (died : Bool) (settings : Settings) (w g n : ℕ) (s : State) → IsWhole s → (worker s w).runs ≡ Some g →
     IsWhole (with_worker w (worked settings n died (worker s w)) (with_goroutine g (record (goroutine s g) { count = (goroutine s g).count + n; status = if died then Dead else (goroutine s g).status }) s))
@@ -59,7 +57,7 @@ passes_whole code settings w g n s whole runs = pass_at (is_over_after code n (g
 pub resumes_whole : (code : Code) (settings : Settings) (w g : ℕ) (s : State) → IsWhole s → (worker s w).runs ≡ Some g → IsWhole (resumes code settings w g s)
 resumes_whole code settings w g s whole runs =
     passes_whole code settings w g 1 (with_goroutine g (unmarked (goroutine s g)) s)
-        (keeps_standing s.goroutines s.workers s.channels s.mutexes s.active s.last_epoch whole g (unmarked (goroutine s g)) refl refl) runs
+    (keeps_standing s.goroutines s.workers s.channels s.mutexes s.active s.last_epoch whole g (unmarked (goroutine s g)) refl refl) runs
 
 -- a goroutine that waits nowhere and has a place is blocked
 pub blocked_by : (st : Status) → 1 ≤ seats st → st ≡ Blocked
@@ -72,8 +70,8 @@ blocked_by Dead one = absurd (omega arith)
 pub wakes_whole : (h : ℕ) (s : State) → IsWhole s → (goroutine s h).status ≡ Blocked → places_of s.channels s.mutexes h ≤ 0 → IsWhole (wakes h s)
 wakes_whole h s whole blocked none =
     frees s.goroutines s.workers s.channels s.mutexes s.active s.last_epoch whole h (woken_at s.clock (goroutine s h))
-        (λ w e. let clash : Running w ≡ Blocked = sym (whole.on_worker w h e) ∙ blocked in absurd (cc)) none
-        (λ live. fits (whole.epochs h (live_status (goroutine s h) blocked refl)))
+    (λ w e. let clash : Running w ≡ Blocked = sym (whole.on_worker w h e) ∙ blocked in absurd (cc)) none
+    (λ live. fits (whole.epochs h (live_status (goroutine s h) blocked refl)))
   where
     fits : ((goroutine s h).epoch ≡ s.last_epoch) ⊎ Behind s.active s.last_epoch (goroutine s h) → ((goroutine s h).epoch ≡ s.last_epoch) ⊎ Behind s.active s.last_epoch (woken_at s.clock (goroutine s h))
     fits (inl same) = inl same
@@ -119,7 +117,7 @@ module _ (code : Code) (settings : Settings) (w g : ℕ) (s : State) (cs : List 
       let status = whole.on_worker w g runs in
       let base = off s w g y (left (worker s w)) whole runs refl refl in
       lines (set s.goroutines g y) (set s.workers w (left (worker s w))) s.channels s.mutexes s.active s.last_epoch base cs ms
-          (replaced_within (λ n x. places_of cs ms n ≤ seats x.status) nobody s.goroutines g y (live_within s.goroutines g (live_status (goroutine s g) status refl))
-              (let none = not_waiting s w g 0 whole status in let mine = balance g in let one = one_if_eq g g refl in omega arith)
-              (λ n other. let mine = balance n in let zero = one_if_ne g n (λ e. other (sym e)) in let old = whole.waits n in omega arith))
+      (replaced_within (λ n x. places_of cs ms n ≤ seats x.status) nobody s.goroutines g y (live_within s.goroutines g (live_status (goroutine s g) status refl))
+      (let none = not_waiting s w g 0 whole status in let mine = balance g in let one = one_if_eq g g refl in omega arith)
+      (λ n other. let mine = balance n in let zero = one_if_ne g n (λ e. other (sym e)) in let old = whole.waits n in omega arith))
   meets_whole Fault balance = off (with_lines cs ms s) w g (turned Faulted (goroutine s g)) (left (worker s w)) (fewer balance) runs refl refl

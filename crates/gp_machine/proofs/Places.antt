@@ -1,8 +1,8 @@
 -- What holds at each place of a list holds after one place is changed, or one is added.
-use Rattle.std.proofs.Common.{◌≡◌, ◌⊎◌, ℕ, ◌+◌, ◌<◌, ◌≤◌, Bool, true, false, cond, List, [], ◌∷◌, ◌++◌, length, get_or, set, count_by, sum_by, refl, sym, ap, ◌∙◌, subst, inl, inr, arith, get_or-set_same, get_or-set_other, zero, suc}
+use Rattle.std.proofs.Common.{◌≡◌, ◌⊎◌, ℕ, ◌+◌, ◌<◌, ◌≤◌, Bool, true, false, cond, List, [], ◌∷◌, ◌++◌, length, get_or, set, count_by, sum_by, refl, sym, subst, inl, inr, arith, get_or-set_same, get_or-set_other, zero, suc}
 use Rattle.std.proofs.lemmas.List.{set_past, get_or_past, get_or_push, get_or_append_left, length_push}
-use Rattle.std.proofs.lemmas.Bool.{cases_eq, cases_lt, cases_Bool}
-use Rattle.std.proofs.lemmas.List.Sums.{sum_by-cons, sum_by-set, sum_by-append}
+use Rattle.std.proofs.lemmas.Bool.{cases_eq, cases_lt}
+use Rattle.std.proofs.lemmas.List.Sums.{sum_by-cons, sum_by-set}
 
 at_place : {X : Type 0} (P : ℕ → X → Type 0) (d : X) (xs : List X) (i : ℕ) (y : X) (k : ℕ) → (k ≡ i) ⊎ (k ≡ i → ⊥) → (i < length xs) ⊎ (length xs ≤ i) → P i y → P k (get_or xs k d) → P k (get_or (set xs i y) k d)
 at_place P d xs i y k (inr other) within new old = rw (get_or-set_other xs i k y d other) old

@@ -1,25 +1,21 @@
 -- While a profile is active, goroutines that are still behind stand where they stood.
-use Rattle.std.proofs.Common.{◌≡◌, ◌⊎◌, ℕ, ◌+◌, ◌<◌, ◌≤◌, Bool, true, false, not, ◌&&◌, ◌||◌, ◌==◌, cond, List, [], ◌∷◌, ◌++◌, length, get_or, set, take, Some, None, refl, sym, ap, ◌∙◌, subst, inl, inr, arith, zero, suc, true≢false, if◌then◌else◌, nat_lt, nat_le, count_by}
+use Rattle.std.proofs.Common.{◌≡◌, ◌⊎◌, ℕ, ◌+◌, ◌<◌, ◌≤◌, Bool, true, false, ◌&&◌, ◌==◌, List, [], ◌∷◌, ◌++◌, length, get_or, set, Some, refl, sym, ap, ◌∙◌, subst, inl, inr, arith, zero, suc, true≢false, if◌then◌else◌, nat_lt}
 use Rattle.std.proofs.lemmas.List.{get_or_past}
-use Rattle.std.proofs.lemmas.List.Sums.{sum_by-cons, count_by-le-length}
-use Rattle.std.proofs.lemmas.Bool.{and_right, and_parts, or_cases, le-ltb, ltb-true, lt-leb, le-leb, eqb-true, cases_Bool}
+use Rattle.std.proofs.lemmas.Bool.{and_right, or_cases, le-ltb, lt-leb, le-leb, eqb-true}
 use Rattle.gp_stack.specs.declared.record.Record.{Record as Row}
 use Rattle.gp_machine.specs.declared.entry.Entry.{Entry}
 use Rattle.gp_machine.specs.declared.entry.Entry.TheVariants.{Start, Run, Op, Tick, Park, Open, Refuse, Record, Close}
 use Rattle.gp_machine.specs.declared.goroutine.Goroutine.{Goroutine}
-use Rattle.gp_machine.specs.declared.goroutine.Status.TheVariants.{Runnable, Running, Blocked, Faulted, Dead}
+use Rattle.gp_machine.specs.declared.goroutine.Status.TheVariants.{Blocked}
 use Rattle.gp_machine.specs.declared.settings.Settings.{Settings}
-use Rattle.gp_machine.specs.State.{Code, State, nobody, goroutine, worker, is_dead, is_live, is_behind, points_of}
-use Rattle.gp_machine.specs.Due.{asked}
-use Rattle.gp_machine.specs.May.{May, MayStart, MayOpen, MayRecord, MayClose, is_recorded}
-use Rattle.gp_machine.specs.Effect.{recorded, with_goroutine, wakes, woken_at, passes, passed, bears, child_of, acts, after, unmarked}
-use Rattle.gp_machine.specs.Run.{AreLegal, IsLegal, after_all, last}
-use Rattle.gp_machine.specs.Frozen.{row, rows_from, frozen, rows_taken, inserted, sorted}
-use Rattle.gp_machine.proofs.Places.{changed, pushed, none_counted}
-use Rattle.gp_machine.proofs.Whole.{Whole, IsWhole, Fits, Behind}
-use Rattle.gp_machine.proofs.Parts.{live_status, running_last, with_lines}
-use Rattle.gp_machine.proofs.Acts.{Cases, acts_all}
-use Rattle.gp_machine.proofs.Steps.{step_whole, behind_parts, behind_from, active_last, none_active}
+use Rattle.gp_machine.specs.State.{Code, State, nobody, goroutine, worker, is_live, is_behind}
+use Rattle.gp_machine.specs.May.{May, is_recorded}
+use Rattle.gp_machine.specs.Effect.{woken_at, passes, passed, bears, child_of, acts, after, unmarked}
+use Rattle.gp_machine.specs.Frozen.{row, rows_from, inserted}
+use Rattle.gp_machine.proofs.Places.{changed, pushed}
+use Rattle.gp_machine.proofs.Whole.{IsWhole}
+use Rattle.gp_machine.proofs.Parts.{live_status, running_last}
+use Rattle.gp_machine.proofs.Acts.{acts_all}
 
 -- two goroutines stand at the same place
 pub record SamePlace (x y : Goroutine) : Type 0 where
@@ -63,8 +59,8 @@ settled_set active gs g y one = changed (λ k x. SameBehind active (get_or gs k 
 settled_push : (active : ℕ) (gs : List Goroutine) (y : Goroutine) → is_behind active y ≡ false → Settled active gs (gs ++ y ∷ [])
 settled_push active gs y e =
     pushed (λ k x. SameBehind active (get_or gs k nobody) x) nobody gs y
-        (subst (λ x. SameBehind active x y) (sym (get_or_past gs (length gs) nobody (omega arith))) (record { same = e; place = λ b. absurd (true≢false (sym b)) }))
-        (λ k. same_behind active (get_or gs k nobody))
+    (subst (λ x. SameBehind active x y) (sym (get_or_past gs (length gs) nobody (omega arith))) (record { same = e; place = λ b. absurd (true≢false (sym b)) }))
+    (λ k. same_behind active (get_or gs k nobody))
 
 active_le : (s : State) → IsWhole s → s.active ≤ s.last_epoch
 active_le s whole = which whole.is_last
@@ -109,7 +105,7 @@ module _ (code : Code) (settings : Settings) (w g : ℕ) (s : State) (whole : Is
     faulted = λ cause cs ms some. leaver _ refl;
     bore = λ function room. passer (bears code function g s).goroutines 1 (settled_push s.active s.goroutines (child_of code function g s) (not_behind s.active (child_of code function g s) (active_le s whole)))
         (epoch_kept _ (pushed (λ k x. (goroutine s k).epoch ≤ x.epoch) nobody s.goroutines (child_of code function g s)
-            (subst (λ (x : Goroutine). x.epoch ≤ s.last_epoch) (sym (get_or_past s.goroutines (length s.goroutines) nobody (omega arith))) (omega arith)) (λ k. omega arith)));
+        (subst (λ (x : Goroutine). x.epoch ≤ s.last_epoch) (sym (get_or_past s.goroutines (length s.goroutines) nobody (omega arith))) (omega arith)) (λ k. omega arith)));
   })
 
 recorded_ahead : (s : State) (g : ℕ) → is_recorded s g ≡ true → s.active ≤ (goroutine s g).epoch
@@ -186,7 +182,7 @@ missing_insert code active n m zero (x ∷ xs) y e before after =
     rw (before, after, same) (head_row code active (suc n) (row code n x) xs (omega arith))
 missing_insert code active n m (suc g) (x ∷ xs) y e before after =
     later_at (row code m (get_or xs g nobody)) (row code n x) (missing code active (suc n) (set xs g y)) (missing code active (suc n) xs) (is_behind active x) (omega arith)
-        (missing_insert code active (suc n) m g xs y (omega arith) before after)
+    (missing_insert code active (suc n) m g xs y (omega arith) before after)
 
 -- where none is behind, nothing is missing
 pub missing_none : (code : Code) (active n : ℕ) (gs : List Goroutine) → ((k : ℕ) → is_behind active (get_or gs k nobody) ≡ false) → missing code active n gs ≡ []

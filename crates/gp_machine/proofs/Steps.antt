@@ -1,24 +1,20 @@
 -- Each entry keeps a state whole.
-use Rattle.std.proofs.Common.{◌≡◌, ◌≢◌, ◌⊎◌, ℕ, ◌+◌, ◌<◌, ◌≤◌, Bool, true, false, not, ◌&&◌, ◌||◌, ◌==◌, cond, List, [], ◌∷◌, ◌++◌, length, get_or, set, count_by, sum_by, Some, None, refl, sym, ap, ◌∙◌, subst, inl, inr, arith, zero, suc, true≢false, if◌then◌else◌, nat_lt}
-use Rattle.std.proofs.lemmas.Bool.{and_parts, and_left, and_from, or_cases, lt-ltb, ltb-true, eqb-true}
+use Rattle.std.proofs.Common.{◌≡◌, ◌⊎◌, ℕ, ◌<◌, ◌≤◌, Bool, true, false, ◌==◌, length, get_or, set, Some, refl, sym, ◌∙◌, subst, inl, inr, arith, true≢false, if◌then◌else◌, nat_lt}
+use Rattle.std.proofs.lemmas.Bool.{and_parts, and_from, or_cases, lt-ltb, ltb-true, eqb-true}
 use Rattle.gp_isa.specs.Trace.{Instruction, Local, Labels, Send, Recv, Lock, Unlock, Spawn}
-use Rattle.gp_stack.specs.Goroutine.{labels_of}
-use Rattle.gp_sync.specs.Operations.{send, recv, lock, unlock, empty_channel, free_mutex}
+use Rattle.gp_sync.specs.Operations.{send, recv, lock, unlock}
 use Rattle.gp_machine.specs.declared.entry.Entry.{Entry}
 use Rattle.gp_machine.specs.declared.entry.Entry.TheVariants.{Start, Run, Op, Tick, Park, Open, Refuse, Record, Close}
 use Rattle.gp_machine.specs.declared.goroutine.Goroutine.{Goroutine}
-use Rattle.gp_machine.specs.declared.goroutine.Status.{Status}
-use Rattle.gp_machine.specs.declared.goroutine.Status.TheVariants.{Runnable, Running, Blocked, Faulted, Dead}
-use Rattle.gp_machine.specs.declared.goroutine.Worker.{Worker}
+use Rattle.gp_machine.specs.declared.goroutine.Status.TheVariants.{Runnable, Running, Faulted}
 use Rattle.gp_machine.specs.declared.settings.Settings.{Settings}
-use Rattle.gp_machine.specs.State.{Code, State, nobody, resting, goroutine, worker, channel, mutex, is_running, is_dead, is_live, is_behind, points_of, births, running, first}
+use Rattle.gp_machine.specs.State.{Code, State, nobody, resting, goroutine, worker, channel, mutex, is_running, is_live, is_behind, births}
 use Rattle.gp_machine.specs.Due.{asked, next_instruction}
-use Rattle.gp_machine.specs.May.{May, MayStart, MayOpen, MayRecord, MayClose, is_recorded}
-use Rattle.gp_machine.specs.Effect.{turned, recorded, newborn, started, left, ticked, with_goroutine, with_worker, starts, leaves, passes, faults, bears, operates, spawns, waiter, acts, after}
-use Rattle.gp_machine.specs.Run.{AreLegal, IsLegal, after_all, last, at}
+use Rattle.gp_machine.specs.May.{May, MayOpen, MayClose, is_recorded}
+use Rattle.gp_machine.specs.Effect.{turned, recorded, started, left, ticked, with_goroutine, starts, passes, faults, bears, operates, waiter, after}
 use Rattle.gp_machine.specs.Waiting.{places_of}
-use Rattle.gp_machine.proofs.Places.{changed, replaced, replaced_within, none_counted}
-use Rattle.gp_machine.proofs.Whole.{seats, Behind, Fits, Whole, IsWhole, some_same, Running-same, live_within, unloads, keeps_running, keeps_standing, frees, gains}
+use Rattle.gp_machine.proofs.Places.{changed, replaced_within, none_counted}
+use Rattle.gp_machine.proofs.Whole.{seats, Behind, Fits, Whole, IsWhole, some_same, live_within, keeps_running, frees, gains}
 use Rattle.gp_machine.proofs.Parts.{live_status, running_last, off, passes_whole, resumes_whole, meets_whole}
 use Rattle.gp_machine.proofs.Lines.{send_moves, recv_moves, lock_moves, unlock_moves}
 
@@ -28,8 +24,8 @@ starts_whole w g s whole runnable known = record {
   on_worker = changed (λ n u. (k : ℕ) → u.runs ≡ Some k → (get_or (set s.goroutines g y) k nobody).status ≡ Running n) resting s.workers w (started g (worker s w))
       (λ k e. replaced_within (λ n x. n ≡ k → x.status ≡ Running w) nobody s.goroutines g y within (λ here. refl) (λ n other here. absurd (other (here ∙ sym (some_same e)))) k refl)
       (λ n k e. changed (λ m x. m ≡ k → x.status ≡ Running n) nobody s.goroutines g y
-          (λ here. let clash : Running n ≡ Runnable = sym (whole.on_worker n k e) ∙ subst (λ m. (goroutine s m).status ≡ Runnable) here runnable in absurd (cc))
-          (λ m here. subst (λ i. (goroutine s i).status ≡ Running n) (sym here) (whole.on_worker n k e)) k refl);
+      (λ here. let clash : Running n ≡ Runnable = sym (whole.on_worker n k e) ∙ subst (λ m. (goroutine s m).status ≡ Runnable) here runnable in absurd (cc))
+      (λ m here. subst (λ i. (goroutine s i).status ≡ Running n) (sym here) (whole.on_worker n k e)) k refl);
   waits = changed (λ n x. places_of s.channels s.mutexes n ≤ seats x.status) nobody s.goroutines g y (subst (λ t. places_of s.channels s.mutexes g ≤ seats t) runnable (whole.waits g)) whole.waits;
   epochs = changed (λ n x. Fits s.active s.last_epoch x) nobody s.goroutines g y (λ live. inl (has_last (whole.epochs g (live_status (goroutine s g) runnable refl)))) whole.epochs;
   is_last = whole.is_last;
@@ -37,8 +33,10 @@ starts_whole w g s whole runnable known = record {
   where
     y : Goroutine
     y = turned (Running w) (goroutine s g)
+
     within : g < length s.goroutines
     within = live_within s.goroutines g (live_status (goroutine s g) runnable refl)
+
     has_last : ((goroutine s g).epoch ≡ s.last_epoch) ⊎ Behind s.active s.last_epoch (goroutine s g) → (goroutine s g).epoch ≡ s.last_epoch
     has_last (inl same) = same
     has_last (inr behind) = which (or_cases (s.active == 0) ((goroutine s g).epoch == s.active) known) whole.is_last
@@ -97,8 +95,8 @@ records_whole g s whole some behind =
     let parts = behind_parts s.active (goroutine s g) behind in
     let end = active_last s whole some in
     frees s.goroutines s.workers s.channels s.mutexes s.active s.last_epoch whole g (recorded s.active (goroutine s g))
-        (λ w e. let same = running_last s w g whole (whole.on_worker w g e) in let below = parts.1 in omega arith)
-        (whole.waits g) (λ live. inl end)
+    (λ w e. let same = running_last s w g whole (whole.on_worker w g e) in let below = parts.1 in omega arith)
+    (whole.waits g) (λ live. inl end)
 
 -- no profile is active where one is asked for
 pub none_active : (settings : Settings) (s : State) → asked settings s ≡ true → s.active ≡ 0

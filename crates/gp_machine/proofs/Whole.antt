@@ -1,18 +1,13 @@
 -- What every state of a legal journal keeps, and that each part of an effect keeps it.
-use Rattle.std.proofs.Common.{◌≡◌, ◌⊎◌, ℕ, ◌+◌, ◌<◌, ◌≤◌, Bool, true, false, not, ◌&&◌, ◌||◌, ◌==◌, cond, List, [], ◌∷◌, ◌++◌, length, get_or, set, count_by, sum_by, Some, None, refl, sym, ap, ◌∙◌, subst, inl, inr, arith, get_or-set_same, get_or-set_other, zero, suc, true≢false}
+use Rattle.std.proofs.Common.{◌≡◌, ◌⊎◌, ℕ, ◌+◌, ◌<◌, ◌≤◌, true, false, not, List, [], ◌∷◌, ◌++◌, length, get_or, set, Some, None, refl, sym, ap, ◌∙◌, subst, inl, inr, arith, get_or-set_other, true≢false}
 use Rattle.std.proofs.lemmas.List.{get_or_past}
-use Rattle.std.proofs.lemmas.Bool.{cases_eq, cases_lt, cases_Bool}
-use Rattle.gp_stack.specs.Goroutine.{is_ended, labels_of}
-use Rattle.gp_sync.specs.declared.effect.Effect.{Effect}
-use Rattle.gp_sync.specs.declared.effect.Effect.TheVariants.{Done, Blocks, Wakes, Fault}
+use Rattle.std.proofs.lemmas.Bool.{cases_lt}
 use Rattle.gp_sync.specs.Operations.{Channel, Mutex}
 use Rattle.gp_machine.specs.declared.goroutine.Goroutine.{Goroutine}
 use Rattle.gp_machine.specs.declared.goroutine.Status.{Status}
-use Rattle.gp_machine.specs.declared.goroutine.Status.TheVariants.{Runnable, Running, Blocked, Faulted, Dead}
+use Rattle.gp_machine.specs.declared.goroutine.Status.TheVariants.{Runnable, Running, Blocked, Dead}
 use Rattle.gp_machine.specs.declared.goroutine.Worker.{Worker}
-use Rattle.gp_machine.specs.declared.settings.Settings.{Settings}
-use Rattle.gp_machine.specs.State.{Code, State, nobody, resting, goroutine, worker, is_running, is_dead, is_live, points_of, births}
-use Rattle.gp_machine.specs.Effect.{turned, passed, is_over_after, unmarked, blocked_at, woken_at, newborn, started, left, worked, with_goroutine, with_worker, starts, leaves, passes, blocks, faults, wakes, bears, resumes, meets}
+use Rattle.gp_machine.specs.State.{State, nobody, resting, is_running, is_dead, is_live}
 use Rattle.gp_machine.specs.Waiting.{places_of}
 use Rattle.gp_machine.proofs.Places.{changed, pushed}
 

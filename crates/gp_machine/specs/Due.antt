@@ -1,5 +1,5 @@
 -- When a profile is asked for, when a run is over, and which entry of a worker is due.
-use Rattle.std.specs.Prelude.{◌≡◌, ◌-◌, ◌%◌, ℕ, zero, suc, min, Bool, true, false, not, ◌&&◌, ◌||◌, ◌==◌, List, [], ◌∷◌, if◌then◌else◌, nat_le}
+use Rattle.std.specs.Prelude.{◌≡◌, refl, ◌-◌, ◌%◌, ℕ, min, Bool, true, false, not, ◌&&◌, ◌||◌, ◌==◌, List, [], ◌∷◌, if◌then◌else◌, nat_le}
 use Rattle.std.specs.List.{list_any}
 use Rattle.gp_isa.specs.Trace.{Instruction, is_local}
 use Rattle.gp_stack.specs.Goroutine.{next_point, local_ahead}
@@ -12,16 +12,17 @@ use Rattle.gp_machine.specs.declared.settings.Request.{Request}
 use Rattle.gp_machine.specs.declared.settings.Request.TheVariants.{Clock, End}
 use Rattle.gp_machine.specs.declared.settings.Settings.{Settings}
 use Rattle.gp_machine.specs.Settings.{period, quantum}
-use Rattle.gp_machine.specs.State.{Code, State, goroutine, worker, points_of, is_runnable, is_running, is_dead, running}
+use Rattle.gp_machine.specs.State.{Code, State, goroutine, worker, trace_of, is_runnable, is_running, is_dead, running}
 
 -- the journal is full
 abbrev pub is_full : Settings → State → Bool
 is_full settings state = nat_le settings.entries state.entries
 
--- some goroutine is runnable or running
+-- a goroutine is runnable or running
 abbrev pub is_ready : Goroutine → Bool
 is_ready g = is_runnable g.status || is_running g.status
 
+-- some goroutine is
 abbrev pub some_ready : State → Bool
 some_ready state = list_any is_ready state.goroutines
 
@@ -62,13 +63,13 @@ ended state =
 
 -- what is done at the next point of g
 abbrev pub next_instruction : Code → State → ℕ → Instruction
-next_instruction code state g = (next_point (points_of code (goroutine state g)) (goroutine state g).count).instruction
+next_instruction code state g = (next_point (trace_of code (goroutine state g)) (goroutine state g).count).instruction
 
 -- how many local points a Run of g on w passes: up to the next shared point or the trace's end, the next multiple
 -- of the tick's period, or the quantum
 unfoldable pub extent : Code → Settings → State → ℕ → ℕ → ℕ
 extent code settings state w g =
-    min (local_ahead (points_of code (goroutine state g)) (goroutine state g).count)
+    min (local_ahead (trace_of code (goroutine state g)) (goroutine state g).count)
     (min (period settings - (worker state w).instructions % period settings) (quantum - (worker state w).slice))
 
 -- The due entry of a worker that runs g: a Tick where one is due; else a Park where a profile is asked for, the run
@@ -79,3 +80,13 @@ due code settings state w g =
     else if asked settings state || over settings state || ((worker state w).slice == quantum) then Park w g
     else if not (is_local (next_instruction code state g)) then Op w g
     else Run w g (extent code settings state w g)
+
+-- Three examples: an instant at the clock has come, one above it hasn't, and the end never comes by the clock.
+come : has_come 5 (Clock 5) ≡ true
+come = refl
+
+to_come : has_come 5 (Clock 6) ≡ false
+to_come = refl
+
+never_by_clock : has_come 5 End ≡ false
+never_by_clock = refl

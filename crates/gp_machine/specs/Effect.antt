@@ -1,5 +1,5 @@
 -- The effect of each entry. What an entry doesn't name stays.
-use Rattle.std.specs.Prelude.{◌≡◌, ◌+◌, ◌%◌, ℕ, Bool, true, false, not, ◌&&◌, ◌==◌, List, [], ◌∷◌, ◌++◌, set, drop, filter, if◌then◌else◌, nat_lt, Some, None}
+use Rattle.std.specs.Prelude.{◌+◌, ◌%◌, ℕ, Bool, true, false, not, ◌&&◌, ◌||◌, ◌==◌, [], ◌∷◌, ◌++◌, set, drop, filter, if◌then◌else◌, nat_lt, Some, None}
 use Rattle.gp_isa.specs.Trace.{Instruction, Local, Labels, Send, Recv, Lock, Unlock, Spawn}
 use Rattle.gp_stack.specs.Goroutine.{is_ended, labels_of}
 use Rattle.gp_sync.specs.declared.effect.Effect.{Effect}
@@ -14,30 +14,34 @@ use Rattle.gp_machine.specs.declared.goroutine.Status.TheVariants.{Runnable, Run
 use Rattle.gp_machine.specs.declared.goroutine.Worker.{Worker}
 use Rattle.gp_machine.specs.declared.settings.Settings.{Settings}
 use Rattle.gp_machine.specs.Settings.{period}
-use Rattle.gp_machine.specs.State.{Code, State, goroutine, worker, channel, mutex, points_of, births}
+use Rattle.gp_machine.specs.State.{Code, State, goroutine, worker, channel, mutex, trace_of, births}
 use Rattle.gp_machine.specs.Due.{next_instruction}
 
--- One goroutine, changed. It has a new status, and it was recorded in a profile.
+-- A goroutine with another status.
 abbrev pub turned : Status → Goroutine → Goroutine
 turned status g = record g { status = status }
 
+-- A goroutine that was recorded in the profile of an epoch.
 abbrev pub recorded : ℕ → Goroutine → Goroutine
 recorded epoch g = record g { epoch = epoch }
 
--- It has passed n points, and dies where its trace ends.
+-- whether a goroutine's trace ends with n points more
 abbrev pub is_over_after : Code → ℕ → Goroutine → Bool
-is_over_after code n g = is_ended (points_of code g) (g.count + n)
+is_over_after code n g = is_ended (trace_of code g) (g.count + n)
 
+-- A goroutine that has passed n points, and has died where its trace ends.
 abbrev pub passed : Code → ℕ → Goroutine → Goroutine
 passed code n g = record g { count = g.count + n; status = if is_over_after code n g then Dead else g.status }
 
--- Its granted mark is cleared; it blocked at a clock; it was woken at a clock, with its waiting point granted.
+-- A goroutine whose granted mark is cleared.
 abbrev pub unmarked : Goroutine → Goroutine
 unmarked g = record g { granted = false }
 
+-- A goroutine that blocked at a clock.
 abbrev pub blocked_at : ℕ → Goroutine → Goroutine
 blocked_at clock g = record g { status = Blocked; blocked = clock }
 
+-- A goroutine that was woken at a clock: runnable, with the mark that its waiting point is granted.
 abbrev pub woken_at : ℕ → Goroutine → Goroutine
 woken_at clock g = record g { status = Runnable; granted = true; woken = clock }
 
@@ -46,43 +50,49 @@ abbrev pub newborn : ℕ → ℕ → ℕ → Goroutine
 newborn function labels epoch =
     record { start = function; set = labels; count = 0; status = Runnable; granted = false; epoch = epoch; blocked = 0; woken = 0 }
 
--- One worker, changed. It runs g from now on; it has run n instructions more, where the goroutine died or not; it
--- left its goroutine; its due tick is cleared.
+-- A worker that begins to run g, with slice count 0.
 abbrev pub started : ℕ → Worker → Worker
 started g w = record w { runs = Some g; slice = 0 }
 
+-- A worker that has left its goroutine.
 abbrev pub left : Worker → Worker
 left w = record w { runs = None }
 
+-- A worker whose due tick is cleared.
 abbrev pub ticked : Worker → Worker
 ticked w = record w { tick = false }
 
--- A tick becomes due where the instruction count comes to a multiple of the period and the goroutine still runs.
+-- A worker that has run n instructions more, its goroutine having died or not. A tick becomes due where its
+-- instruction count is brought to a multiple of the period and the goroutine still runs.
 abbrev pub worked : Settings → ℕ → Bool → Worker → Worker
 worked settings n died w = record w {
   runs = if died then None else w.runs;
   instructions = w.instructions + n;
   slice = w.slice + n;
-  tick = not died && ((w.instructions + n) % period settings == 0);
+  tick = w.tick || (not died && ((w.instructions + n) % period settings == 0));
 }
 
--- The state with one goroutine, worker, channel or mutex changed.
+-- the state with another goroutine at a number
 abbrev pub with_goroutine : ℕ → Goroutine → State → State
 with_goroutine g new state = record state { goroutines = set state.goroutines g new }
 
+-- with another worker
 abbrev pub with_worker : ℕ → Worker → State → State
 with_worker w new state = record state { workers = set state.workers w new }
 
+-- with another channel
 abbrev pub with_channel : ℕ → Channel → State → State
 with_channel c new state = record state { channels = set state.channels c new }
 
+-- with another mutex
 abbrev pub with_mutex : ℕ → Mutex → State → State
 with_mutex m new state = record state { mutexes = set state.mutexes m new }
 
--- g goes to the tail of the queue, or leaves the queue
+-- g goes to the tail of the queue
 abbrev pub queued : ℕ → State → State
 queued g state = record state { queue = state.queue ++ g ∷ [] }
 
+-- g leaves the queue
 abbrev pub unqueued : ℕ → State → State
 unqueued g state = record state { queue = filter (λ other. not (other == g)) state.queue }
 
@@ -97,7 +107,8 @@ leaves w g new state = with_worker w (left (worker state w)) (with_goroutine g n
 -- g passes n points on w, which count as n instructions
 abbrev pub passes : Code → Settings → ℕ → ℕ → ℕ → State → State
 passes code settings w g n state =
-    let after = with_worker w (worked settings n (is_over_after code n (goroutine state g)) (worker state w)) (with_goroutine g (passed code n (goroutine state g)) state) in
+    let died = is_over_after code n (goroutine state g) in
+    let after = with_worker w (worked settings n died (worker state w)) (with_goroutine g (passed code n (goroutine state g)) state) in
     record after { clock = state.clock + n }
 
 -- g leaves w as blocked
@@ -114,13 +125,15 @@ faults cause w g state =
 abbrev pub wakes : ℕ → State → State
 wakes g state = queued g (with_goroutine g (woken_at state.clock (goroutine state g)) state)
 
--- a goroutine is born of g, to run a function
+-- the labels of a goroutine
 abbrev pub labels_at : Code → Goroutine → ℕ
-labels_at code g = labels_of (points_of code g) g.set g.count
+labels_at code g = labels_of (trace_of code g) g.set g.count
 
+-- the goroutine that is born of g, to run a function
 abbrev pub child_of : Code → ℕ → ℕ → State → Goroutine
 child_of code function g state = newborn function (labels_at code (goroutine state g)) state.last_epoch
 
+-- It is born under the next number, and goes to the tail of the queue.
 abbrev pub bears : Code → ℕ → ℕ → State → State
 bears code function g state =
     let after = queued (births state) state in
@@ -133,10 +146,11 @@ meets code settings w g (Wakes h since) state = passes code settings w g 1 (wake
 meets code settings w g Blocks state = blocks w g state
 meets code settings w g Fault state = faults 1 w g state
 
--- the operation on a channel or a mutex, with what it leaves there
+-- the effect of an operation on a channel, with what it leaves there
 abbrev pub meets_channel : Code → Settings → ℕ → ℕ → ℕ → Effect × Channel → State → State
 meets_channel code settings w g c outcome state = meets code settings w g outcome.0 (with_channel c outcome.1 state)
 
+-- the same on a mutex
 abbrev pub meets_mutex : Code → Settings → ℕ → ℕ → ℕ → Effect × Mutex → State → State
 meets_mutex code settings w g m outcome state = meets code settings w g outcome.0 (with_mutex m outcome.1 state)
 
@@ -172,7 +186,7 @@ acts code settings w g state =
     then resumes code settings w g state
     else operates code settings w g (next_instruction code state g) state
 
--- the first request that is left is served
+-- the next request is served
 abbrev pub served : State → State
 served state = record state { requests = drop 1 state.requests }
 

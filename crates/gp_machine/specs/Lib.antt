@@ -7,3 +7,5 @@ pub mod Run
 pub mod Frozen
 pub mod Waiting
 pub mod JournalLaw
+pub mod Worked
+pub mod Numbers

@@ -4,7 +4,7 @@ use Rattle.gp_machine.specs.declared.entry.Entry.{Entry}
 use Rattle.gp_machine.specs.declared.entry.Entry.TheVariants.{Start, Run, Op, Tick, Park, Open, Refuse, Record, Close}
 use Rattle.gp_machine.specs.declared.goroutine.Status.TheVariants.{Runnable}
 use Rattle.gp_machine.specs.declared.settings.Settings.{Settings}
-use Rattle.gp_machine.specs.State.{Code, State, goroutine, worker, is_live, is_idle, is_behind, live, running}
+use Rattle.gp_machine.specs.State.{Code, State, goroutine, worker, is_idle, is_behind, live, running}
 use Rattle.gp_machine.specs.Due.{asked, over, due}
 
 -- no profile is active, or g's epoch is the active one

@@ -1,9 +1,8 @@
 -- Legal journals.
-use Rattle.std.specs.Prelude.{◌≡◌, ℕ, List, [], ◌∷◌, take, fold}
-use Rattle.gp_isa.specs.declared.parts.Parts.{Parts}
+use Rattle.std.specs.Prelude.{ℕ, List, [], ◌∷◌, take}
 use Rattle.gp_machine.specs.declared.entry.Entry.{Entry}
 use Rattle.gp_machine.specs.declared.settings.Settings.{Settings}
-use Rattle.gp_machine.specs.State.{Code, State, first, code_of}
+use Rattle.gp_machine.specs.State.{Code, State, first}
 use Rattle.gp_machine.specs.Due.{IsComplete}
 use Rattle.gp_machine.specs.May.{May}
 use Rattle.gp_machine.specs.Effect.{after}
@@ -22,10 +21,11 @@ after_all code settings state (entry ∷ entries) = after_all code settings (aft
 abbrev pub IsLegal : Code → Settings → List Entry → Type 0
 IsLegal code settings journal = AreLegal code settings (first code settings) journal
 
--- the state after all entries, and before entry k, counted from 0
+-- the state after all entries of a journal
 abbrev pub last : Code → Settings → List Entry → State
 last code settings journal = after_all code settings (first code settings) journal
 
+-- the state before entry k, counted from 0
 abbrev pub at : Code → Settings → List Entry → ℕ → State
 at code settings journal k = last code settings (take k journal)
 

@@ -1,6 +1,5 @@
 -- The state of the machine.
-use Rattle.std.specs.Prelude.{◌≡◌, ◌<◌, ℕ, zero, suc, Bool, true, false, not, ◌&&◌, ◌||◌, ◌==◌, List, [], ◌∷◌, length, get_or, replicate, count_by, Option, Some, None, is_none, unwrap_or, slice_index_or, nat_lt, map}
-use Rattle.std.specs.List.{list_any}
+use Rattle.std.specs.Prelude.{ℕ, Bool, true, false, not, ◌&&◌, List, [], ◌∷◌, length, get_or, replicate, count_by, None, is_none, unwrap_or, slice_index_or, nat_lt, map}
 use Rattle.gp_isa.specs.declared.parts.Parts.{Parts}
 use Rattle.gp_isa.specs.declared.parts.ChannelDecl.{ChannelDecl}
 use Rattle.gp_isa.specs.Checked.{main_of}
@@ -8,7 +7,7 @@ use Rattle.gp_isa.specs.Trace.{Point, trace}
 use Rattle.gp_sync.specs.Operations.{Channel, Mutex, empty_channel, free_mutex}
 use Rattle.gp_machine.specs.declared.goroutine.Goroutine.{Goroutine}
 use Rattle.gp_machine.specs.declared.goroutine.Status.{Status}
-use Rattle.gp_machine.specs.declared.goroutine.Status.TheVariants.{Runnable, Running, Blocked, Faulted, Dead}
+use Rattle.gp_machine.specs.declared.goroutine.Status.TheVariants.{Runnable, Running, Dead}
 use Rattle.gp_machine.specs.declared.goroutine.Worker.{Worker}
 use Rattle.gp_machine.specs.declared.settings.Request.{Request}
 use Rattle.gp_machine.specs.declared.settings.Settings.{Settings}
@@ -62,28 +61,33 @@ nobody = record { start = 0; set = 0; count = 0; status = Dead; granted = false;
 abbrev pub resting : Worker
 resting = record { runs = None; instructions = 0; slice = 0; tick = false }
 
--- each thing by its number
+-- the goroutine of a number
 abbrev pub goroutine : State → ℕ → Goroutine
 goroutine state g = get_or state.goroutines g nobody
 
+-- the worker of a number
 abbrev pub worker : State → ℕ → Worker
 worker state w = get_or state.workers w resting
 
+-- the channel of a number
 abbrev pub channel : State → ℕ → Channel
 channel state c = get_or state.channels c empty_channel
 
+-- the mutex of a number
 abbrev pub mutex : State → ℕ → Mutex
 mutex state m = get_or state.mutexes m free_mutex
 
--- the status of a goroutine
+-- whether a status is runnable
 abbrev pub is_runnable : Status → Bool
 is_runnable Runnable = true
 is_runnable _ = false
 
+-- running on some worker
 abbrev pub is_running : Status → Bool
 is_running (Running w) = true
 is_running _ = false
 
+-- dead
 abbrev pub is_dead : Status → Bool
 is_dead Dead = true
 is_dead _ = false
@@ -92,21 +96,23 @@ is_dead _ = false
 abbrev pub is_live : Goroutine → Bool
 is_live g = not (is_dead g.status)
 
--- the points that a goroutine passes
-abbrev pub points_of : Code → Goroutine → List Point
-points_of code g = code.points g.start
+-- the trace of a goroutine
+abbrev pub trace_of : Code → Goroutine → List Point
+trace_of code g = code.points g.start
 
--- how many goroutines were born, are live, are running
+-- how many goroutines were born
 abbrev pub births : State → ℕ
 births state = length state.goroutines
 
+-- how many are live
 abbrev pub live : State → ℕ
 live state = count_by is_live state.goroutines
 
+-- how many are running
 abbrev pub running : State → ℕ
 running state = count_by (λ g. is_running g.status) state.goroutines
 
--- whether a worker runs nothing
+-- whether there is a worker of a number, and it runs nothing
 abbrev pub is_idle : State → ℕ → Bool
 is_idle state w = nat_lt w (length state.workers) && is_none (worker state w).runs
 
@@ -114,10 +120,11 @@ is_idle state w = nat_lt w (length state.workers) && is_none (worker state w).ru
 abbrev pub is_behind : ℕ → Goroutine → Bool
 is_behind epoch g = is_live g && nat_lt g.epoch epoch
 
--- The first state: `main` is born as goroutine 0, runnable, with no points passed and the empty label set 0.
+-- The goroutine that runs `main`: runnable, with no points passed and the empty label set 0.
 abbrev pub main_goroutine : Code → Goroutine
 main_goroutine code = record { start = code.main; set = 0; count = 0; status = Runnable; granted = false; epoch = 0; blocked = 0; woken = 0 }
 
+-- The first state, in which `main` is born as goroutine 0.
 abbrev pub first : Code → Settings → State
 first code settings = record {
   goroutines = main_goroutine code ∷ [];

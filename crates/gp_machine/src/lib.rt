@@ -1,4 +1,23 @@
 //! The machine: goroutines that workers run, and the journal of what happened.
+//!
+//! Workers run goroutines, one each, and every step is one entry of the journal. A worker that runs one has exactly
+//! one entry that is due: a Tick where a CPU sample is due, a Park where a profile is asked for, the run is over or
+//! 1,000 instructions were run, an Op where the next point is shared, else a Run of local points. A worker that runs
+//! nothing may Start any runnable goroutine. One more actor, the profiler, opens a goroutine profile while nobody
+//! runs, or refuses it where more goroutines are live than the room allows; then goroutines run again, each recorded
+//! before it does, by the profiler or by an idle worker, and the profile is closed once all are. Epochs number the
+//! profiles, and a goroutine whose epoch is below the active one has still to be recorded.
+//!
+//! The definitions are in `specs/`, to be read in this order: `Settings`, `State` (what the machine keeps), `Due` (when
+//! a profile is asked for, when a run is over, what is due), `May` (the condition of each entry), `Effect` (what each
+//! entry does), `Run` (legal journals), `Frozen` (the rows of a profile). `JournalLaw` and `Numbers` say the laws,
+//! `Worked` has journals worked out by hand.
+//!
+//! Promised, of every legal journal of every program (`law_journal`): while a profile is active a running goroutine has
+//! its epoch, and one that has still to be recorded stands where it stood at the Open, even where it was woken since;
+//! so the rows taken at the Record entries are, sorted, the rows of all goroutines live at the Open, each once.
+//! `law_runs` and `law_numbers` have the other laws: prefixes, births, waits, refusals, ends, and bounds on entries,
+//! clock, slices, births and epochs.
 #![tactic(auto)]
 
 mod entry;
@@ -8,5 +27,5 @@ mod settings;
 
 pub use entry::{Counts, Ended, Entry, Journal, Refusals};
 pub use goroutine::{Goroutine, Status, Worker};
-pub use laws::law_journal;
+pub use laws::{law_journal, law_numbers, law_runs, law_worked};
 pub use settings::{Picks, Request, Requests, Settings};

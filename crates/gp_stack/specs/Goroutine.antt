@@ -1,8 +1,8 @@
 -- Where a goroutine stands, told by its trace and its count, which is the number of points that it has passed.
-use Rattle.std.specs.Prelude.{ℕ, Bool, List, [], ◌∷◌, length, get_or, take, drop, nat_le}
+use Rattle.std.specs.Prelude.{◌≡◌, refl, ℕ, Bool, List, [], ◌∷◌, length, get_or, take, drop, nat_le}
 use Rattle.std.specs.List.{prefix_len}
 use Rattle.gp_isa.specs.declared.frame.Frame.{Frame}
-use Rattle.gp_isa.specs.Trace.{Instruction, Local, Labels, Point, is_local}
+use Rattle.gp_isa.specs.Trace.{Instruction, Local, Labels, Send, Point, is_local}
 
 -- what stands for a point past the end of a trace
 abbrev pub no_point : Point
@@ -41,3 +41,24 @@ local_ahead points count = prefix_len (λ point. is_local point.instruction) (dr
 -- how many frames of a goroutine's stack a profile keeps
 abbrev pub frame_limit : ℕ
 frame_limit = 32
+
+-- An example: after `labels 2` on line 4 a goroutine stands at line 5 with set 2, and two local points are ahead of
+-- the send there.
+abbrev example_points : List Point
+example_points =
+    record { stack = record { function = 0; line = 4 } ∷ []; instruction = Labels 2 }
+    ∷ record { stack = record { function = 0; line = 5 } ∷ []; instruction = Local }
+    ∷ record { stack = record { function = 0; line = 5 } ∷ []; instruction = Local }
+    ∷ record { stack = record { function = 0; line = 6 } ∷ []; instruction = Send 0 } ∷ []
+
+stands_at_line_5 : stack_of example_points 1 ≡ record { function = 0; line = 5 } ∷ []
+unfolding stack_of next_point
+stands_at_line_5 = refl
+
+has_set_2 : labels_of example_points 0 1 ≡ 2
+unfolding labels_of
+has_set_2 = refl
+
+two_ahead : local_ahead example_points 1 ≡ 2
+unfolding local_ahead
+two_ahead = refl

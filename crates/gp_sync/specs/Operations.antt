@@ -1,5 +1,5 @@
 -- What the four operations on channels and mutexes do: the effect on the goroutine that makes one, and what is left.
-use Rattle.std.specs.Prelude.{ℕ, ◌+◌, ◌-◌, Bool, true, false, List, [], ◌∷◌, ◌++◌, if◌then◌else◌, nat_lt}
+use Rattle.std.specs.Prelude.{◌≡◌, refl, ℕ, ◌+◌, ◌-◌, Bool, true, false, List, [], ◌∷◌, ◌++◌, if◌then◌else◌, nat_lt}
 use Rattle.gp_sync.specs.declared.effect.Effect.{Effect}
 use Rattle.gp_sync.specs.declared.effect.Effect.TheVariants.{Done, Blocks, Wakes, Fault}
 use Rattle.gp_sync.specs.declared.effect.Waiter.{Waiter}
@@ -62,3 +62,14 @@ unlock_for [] mutex = (Done, record mutex { held = false })
 
 abbrev pub unlock : Mutex → Effect × Mutex
 unlock mutex = if mutex.held then unlock_for mutex.waiters mutex else (Fault, mutex)
+
+-- Three examples. A send blocks where nobody receives and there is no buffer; a receive then wakes that sender; an
+-- unlock hands a held mutex over to the head waiter.
+blocked_send : send 0 empty_channel (record { g = 3; since = 7 }) ≡ (Blocks, record empty_channel { senders = record { g = 3; since = 7 } ∷ [] })
+blocked_send = refl
+
+waking_receive : recv (record empty_channel { senders = record { g = 3; since = 7 } ∷ [] }) (record { g = 5; since = 9 }) ≡ (Wakes 3 7, empty_channel)
+waking_receive = refl
+
+handed_over : unlock (record { held = true; waiters = record { g = 3; since = 7 } ∷ record { g = 4; since = 8 } ∷ [] }) ≡ (Wakes 3 7, record { held = true; waiters = record { g = 4; since = 8 } ∷ [] })
+handed_over = refl

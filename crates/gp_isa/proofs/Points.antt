@@ -1,0 +1,49 @@
+-- The points of a statement, by what it is.
+use Rattle.std.proofs.Common.{◌≡◌, ℕ, zero, suc, ◌-◌, ◌+◌, ◌<◌, ◌⊎◌, List, [], ◌∷◌, ◌++◌, length, take, get_or, flat_map, refl, sym, ap, ◌∙◌, inl, inr, arith}
+use Rattle.std.proofs.lemmas.List.{take_more, flat_map_more}
+use Rattle.gp_isa.specs.declared.size.Size.{Size}
+use Rattle.gp_isa.specs.declared.statement.Stmt.{Stmt}
+use Rattle.gp_isa.specs.declared.statement.What.{What}
+use Rattle.gp_isa.specs.declared.statement.What.TheVariants as what
+use Rattle.gp_isa.specs.Statement.{action, action_of, line_of, action-loop, action-send, action-recv, action-lock, action-unlock, action-spawn, action-labels}
+use Rattle.gp_isa.specs.Trace.{Point, Instruction, Labels, Send, Recv, Lock, Unlock, Spawn, point_at, repeated, points_at, points_of_body}
+use Rattle.gp_isa.specs.Size.{size_of, points_inside}
+
+module _ (calls : ℕ → List Point) (f : ℕ) where
+  pub points_inside-none : (deep : ℕ) (body : List Stmt) → deep ≡ 0 → points_inside calls f deep body ≡ []
+  points_inside-none zero body none = refl
+  points_inside-none (suc deep) body none = absurd (omega arith)
+
+  pub points_inside-some : (deep : ℕ) (body : List Stmt) → (deep ≡ 0 → ⊥) → points_inside calls f deep body ≡ points_of_body calls f (deep - 1) body
+  points_inside-some zero body some = absurd (some refl)
+  points_inside-some (suc deep) body some = let one : deep ≡ suc deep - 1 = omega arith in ap (λ d. points_of_body calls f d body) one
+
+  abbrev pub points_of_statement : ℕ → Stmt → List Point
+  points_of_statement deep s = points_at calls (points_inside calls f deep) f (line_of s) (action_of s)
+
+  pub points_of_body-statements : (deep : ℕ) (body : List Stmt) → points_of_body calls f deep body ≡ flat_map (points_of_statement deep) body
+  points_of_body-statements zero body = refl
+  points_of_body-statements (suc deep) body = refl
+
+  -- the points of one statement more
+  pub points_of_body-more : (deep : ℕ) (body : List Stmt) (i : ℕ) (s : Stmt) → i < length body → s ≡ get_or body i s →
+      flat_map (points_of_statement deep) (take (i + 1) body) ≡ flat_map (points_of_statement deep) (take i body) ++ points_of_statement deep s
+  points_of_body-more deep body i s within here =
+      ap (flat_map (points_of_statement deep)) (take_more body i s within ∙ ap (λ t. take i body ++ t ∷ []) (sym here)) ∙
+      sym (flat_map_more (points_of_statement deep) [] (take i body) s)
+
+  module _ (inner : List Stmt → List Point) (line : ℕ) where
+    pub points_at-loop : (w : What) (n : ℕ) (body : List Stmt) (end : ℕ) → w ≡ what.Loop n body end →
+        points_at calls inner f line (action w) ≡ repeated n (inner body)
+    points_at-loop w n body end is = ap (λ w. points_at calls inner f line (action w)) is ∙ ap (points_at calls inner f line) (action-loop n body end)
+
+    -- the other statements have one point
+    pub size_of-one : (w : What) (a : Size) → ((instruction : Instruction) → a ≡ size_of (point_at f line instruction ∷ [])) →
+        ((x : ℕ) × (w ≡ what.Send x)) ⊎ (((x : ℕ) × (w ≡ what.Recv x)) ⊎ (((x : ℕ) × (w ≡ what.Lock x)) ⊎ (((x : ℕ) × (w ≡ what.Unlock x)) ⊎ (((x : ℕ) × (w ≡ what.Spawn x)) ⊎ ((x : ℕ) × (w ≡ what.Labels x)))))) →
+        a ≡ size_of (points_at calls inner f line (action w))
+    size_of-one w a one (inl (x, is)) = one (Send x) ∙ sym (ap (λ w. size_of (points_at calls inner f line (action w))) is ∙ ap (λ t. size_of (points_at calls inner f line t)) (action-send x))
+    size_of-one w a one (inr (inl (x, is))) = one (Recv x) ∙ sym (ap (λ w. size_of (points_at calls inner f line (action w))) is ∙ ap (λ t. size_of (points_at calls inner f line t)) (action-recv x))
+    size_of-one w a one (inr (inr (inl (x, is)))) = one (Lock x) ∙ sym (ap (λ w. size_of (points_at calls inner f line (action w))) is ∙ ap (λ t. size_of (points_at calls inner f line t)) (action-lock x))
+    size_of-one w a one (inr (inr (inr (inl (x, is))))) = one (Unlock x) ∙ sym (ap (λ w. size_of (points_at calls inner f line (action w))) is ∙ ap (λ t. size_of (points_at calls inner f line t)) (action-unlock x))
+    size_of-one w a one (inr (inr (inr (inr (inl (x, is)))))) = one (Spawn x) ∙ sym (ap (λ w. size_of (points_at calls inner f line (action w))) is ∙ ap (λ t. size_of (points_at calls inner f line t)) (action-spawn x))
+    size_of-one w a one (inr (inr (inr (inr (inr (x, is)))))) = one (Labels x) ∙ sym (ap (λ w. size_of (points_at calls inner f line (action w))) is ∙ ap (λ t. size_of (points_at calls inner f line t)) (action-labels x))

@@ -1,0 +1,13 @@
+use Rattle.std.proofs.Common.{[], length, get_or, sym, arith}
+use Rattle.gp_isa.specs.Ways.{marked}
+use Rattle.gp_isa.proofs.First.{first_from-Some, first_from-None}
+use Rattle.gp_isa.proofs.calls.round_trip.Goals as goal
+
+pub returns-then-row-f-clause-place : goal.returns-then-row-f-clause-place
+returns-then-row-f-clause-place c =
+    sym (first_from-Some (λ f. marked (get_or c.args.rows.now f []) f) 0 (length c.args.rows.now) c.loop-f.f (omega arith) (omega (arith, c.loop-f-test.true)) c.if-row-f.true
+    (λ j above below. c.loop-f.invariant j below))
+
+pub returns-clause-place : goal.returns-clause-place
+returns-clause-place c = sym (first_from-None (λ f. marked (get_or c.args.rows.now f []) f) 0 (length c.args.rows.now)
+    (λ j above below. c.loop-f.invariant j (omega (arith, c.loop-f-test.false, c.loop-f.auto, below))))

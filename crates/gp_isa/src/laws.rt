@@ -1,0 +1,12 @@
+ghost use Rattle.gp_isa.specs.Calls.{TracesAreWhole, TracesFollowCalls};
+ghost use Rattle.gp_isa.specs.WorkedTraces.{LoopOfACall, looping, FirstOfACircle};
+
+/// Laws of traces: in a checked program following calls deeper gives no other points, so that a function's points
+/// are those of its statements, each call standing for the trace of the function called. Two worked programs show
+/// a loop of a call, and the first function that can call itself.
+pub fn law_trace()
+    ensures whole { TracesAreWhole }
+    ensures calls { TracesFollowCalls }
+    ensures worked { LoopOfACall looping }
+    ensures circular { FirstOfACircle }
+{}

@@ -1,0 +1,95 @@
+-- Laws on the numbers of legal journals.
+use Rattle.std.specs.Prelude.{◌≡◌, ◌⊎◌, ◌+◌, ◌*◌, ◌≤◌, ◌<◌, ℕ, true, false, List, [], ◌∷◌, ◌++◌, length, take, drop, sum_by}
+use Rattle.gp_machine.specs.declared.entry.Entry.{Entry}
+use Rattle.gp_machine.specs.declared.entry.Entry.TheVariants.{Refuse}
+use Rattle.gp_machine.specs.declared.goroutine.Worker.{Worker}
+use Rattle.gp_machine.specs.declared.goroutine.Status.TheVariants.{Runnable, Blocked}
+use Rattle.gp_machine.specs.declared.settings.Settings.{Settings}
+use Rattle.gp_machine.specs.Settings.{AreInRange, quantum}
+use Rattle.gp_machine.specs.State.{Code, State, goroutine, worker, is_dead, is_live, births}
+use Rattle.gp_machine.specs.Due.{IsComplete}
+use Rattle.gp_machine.specs.Effect.{after}
+use Rattle.gp_machine.specs.Run.{IsLegal, last, at}
+use Rattle.gp_machine.specs.Waiting.{places_of, LinesTell}
+
+-- A legal journal's prefix is legal.
+abbrev pub PrefixesAreLegal : Type 0
+PrefixesAreLegal = (code : Code) (settings : Settings) (journal : List Entry) (k : ℕ) →
+    IsLegal code settings journal → IsLegal code settings (take k journal)
+
+-- The number of entries is the journal's length.
+abbrev pub EntriesAreCounted : Type 0
+EntriesAreCounted = (code : Code) (settings : Settings) (journal : List Entry) →
+    (last code settings journal).entries ≡ length journal
+
+-- With an entry at most one goroutine is born, under the next number, and one that was born keeps its function and
+-- the set that it inherited.
+pub record Grows (before now : State) : Type 0 where
+  pub next_number : (births now ≡ births before) ⊎ (births now ≡ births before + 1)
+  pub same_start : (g : ℕ) → g < births before → (goroutine now g).start ≡ (goroutine before g).start
+  pub same_set : (g : ℕ) → g < births before → (goroutine now g).set ≡ (goroutine before g).set
+
+-- So goroutines are born in the order of their numbers, entry by entry.
+abbrev pub BornInOrder : Type 0
+BornInOrder = (code : Code) (settings : Settings) (journal : List Entry) (entry : Entry) →
+    IsLegal code settings (journal ++ entry ∷ []) →
+    Grows (last code settings journal) (last code settings (journal ++ entry ∷ []))
+
+-- A goroutine waits in at most one line, and only while it is blocked.
+pub record WaitsOnce (state : State) (g : ℕ) : Type 0 where
+  pub once : places_of state.channels state.mutexes g ≤ 1
+  pub while_blocked : 1 ≤ places_of state.channels state.mutexes g → (goroutine state g).status ≡ Blocked
+
+-- That holds of each goroutine at every step of a legal journal.
+abbrev pub EachWaitsOnce : Type 0
+EachWaitsOnce = (code : Code) (settings : Settings) (journal : List Entry) (k g : ℕ) →
+    IsLegal code settings journal → WaitsOnce (at code settings journal k) g
+
+-- At every step of a legal journal a place in a line tells the clock at which its goroutine blocked.
+abbrev pub LinesTellClocks : Type 0
+LinesTellClocks = (code : Code) (settings : Settings) (journal : List Entry) (k : ℕ) → IsLegal code settings journal →
+    let state = at code settings journal k in LinesTell state.goroutines state.channels state.mutexes
+
+-- What the numbers of a state keep.
+pub record KeepsNumbers (settings : Settings) (state : State) : Type 0 where
+  pub clock_is_sum : state.clock ≡ sum_by (λ (w : Worker). w.instructions) state.workers
+  pub clock_bound : state.clock ≤ quantum * state.entries
+  pub slice_bound : (w : ℕ) → (worker state w).slice ≤ quantum
+  pub births_bound : births state ≤ settings.cells
+  pub live_bound : (g : ℕ) → is_live (goroutine state g) ≡ true → g < settings.cells
+  pub epoch_bound : state.last_epoch ≤ 8
+
+-- That holds at every step of a legal journal.
+abbrev pub NumbersHold : Type 0
+NumbersHold = (code : Code) (settings : Settings) (journal : List Entry) (k : ℕ) → AreInRange settings →
+    IsLegal code settings journal → KeepsNumbers settings (at code settings journal k)
+
+-- the most entries of a legal journal
+abbrev pub most_entries : Settings → ℕ
+most_entries settings = settings.entries + 8 * (settings.cells + 2) + 2 * settings.workers + 2
+
+-- A legal journal has no more.
+abbrev pub EntriesAreBounded : Type 0
+EntriesAreBounded = (code : Code) (settings : Settings) (journal : List Entry) → AreInRange settings →
+    IsLegal code settings journal → length journal ≤ most_entries settings
+
+-- A Refuse leaves the state as it was, but for the served request and the number of entries.
+abbrev pub RefuseLeavesAll : Type 0
+RefuseLeavesAll = (code : Code) (settings : Settings) (state : State) (room n : ℕ) →
+    after code settings state (Refuse room n) ≡ record state { requests = drop 1 state.requests; entries = state.entries + 1 }
+
+-- How a complete run ended: the four ways exclude each other.
+pub record EndsOneWay (settings : Settings) (state : State) : Type 0 where
+  -- where a fault was made, main isn't dead
+  pub by_fault : 1 ≤ state.fault → is_dead (goroutine state 0).status ≡ false
+  -- where none was made, main isn't dead and some goroutine is runnable, the journal is full
+  pub by_entries : (g : ℕ) → state.fault ≡ 0 → is_dead (goroutine state 0).status ≡ false →
+      (goroutine state g).status ≡ Runnable → settings.entries ≤ state.entries
+  -- where none was made and none is runnable, every live goroutine is blocked
+  pub by_deadlock : state.fault ≡ 0 → ((g : ℕ) → (goroutine state g).status ≡ Runnable → ⊥) → (g : ℕ) →
+      is_live (goroutine state g) ≡ true → (goroutine state g).status ≡ Blocked
+
+-- That holds of the last state of a legal journal whose run is complete.
+abbrev pub RunsEndOneWay : Type 0
+RunsEndOneWay = (code : Code) (settings : Settings) (journal : List Entry) → IsLegal code settings journal →
+    IsComplete settings (last code settings journal) → EndsOneWay settings (last code settings journal)

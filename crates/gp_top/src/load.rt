@@ -1,0 +1,63 @@
+ghost use Rattle.std.specs.Prelude.{◌≡◌, IfOk, OnOk, OnErr, IsErrOf};
+ghost use Rattle.gp_io.specs.Outside.{Rose};
+ghost use Rattle.gp_top.specs.Lines.{MainInLimits};
+ghost use Rattle.gp_top.specs.Top.{IsAccepted, IsRefused};
+
+use crate::file::FileError;
+use crate::program::read;
+use gp_io::{ReadError, Source, read_all};
+use gp_isa::Program;
+use std::alloc::Global;
+
+// The most bytes of a program file.
+const LIMIT: usize = 1_048_576;
+
+/// Why the source gave no program.
+#[derive(Clone, Copy, Debug, PartialEq, Eq)]
+pub(crate) enum LoadError {
+    /// Its bytes are no program's text, or too many.
+    Refused,
+    /// A read failed.
+    ReadFault,
+    Memory,
+}
+
+impl From<ReadError> for LoadError {
+    ghost use Rattle.std.specs.Prelude.{◌≡◌};
+    ghost use Rattle.gp_top.specs.Errors.{load_of_read};
+
+    ghost from_gives = { λ error made. made ≡ load_of_read error };
+
+    fn from(error: ReadError) -> LoadError {
+        match error {
+            ReadError::TooLong => LoadError::Refused,
+            ReadError::ReadFault => LoadError::ReadFault,
+            ReadError::Memory => LoadError::Memory,
+        }
+    }
+}
+
+impl From<FileError> for LoadError {
+    ghost use Rattle.std.specs.Prelude.{◌≡◌};
+    ghost use Rattle.gp_top.specs.Errors.{load_of_file};
+
+    ghost from_gives = { λ error made. made ≡ load_of_file error };
+
+    fn from(error: FileError) -> LoadError {
+        match error {
+            FileError::Form => LoadError::Refused,
+            FileError::Memory => LoadError::Memory,
+        }
+    }
+}
+
+/// Reads the program that the source holds.
+pub(crate) fn load<S: Source>(alloc: Global, source: &mut S) -> Result<Program, LoadError>
+    ensures accepted { IfOk result (IsAccepted (S.left source.old)) }
+    ensures refused { IsErrOf result LoadError.Refused → IsRefused (S.left source.old) }
+    ensures fault { IsErrOf result LoadError.ReadFault → Rose (S.faults source.old) (S.faults source.new) }
+    ensures well { (IsErrOf result LoadError.ReadFault → ⊥) → S.faults source.new ≡ S.faults source.old }
+{
+    let bytes = read_all(alloc, source, LIMIT)?;
+    Ok(read(alloc, bytes.as_slice())?)
+}
