@@ -8,3 +8,4 @@ pub mod Climbing
 pub mod Shown
 pub mod Peeks
 pub mod Looking
+pub mod Short

@@ -1,5 +1,6 @@
 ghost use Rattle.std.specs.Prelude.{◌≡◌, ◌+◌, ◌<◌, ◌≤◌, ◌^◌, ℕ, true, false, length, IfOk, min, map, take, drop};
 ghost use Rattle.gp_isa.specs.declared.parts.Parts.{Parts};
+ghost use Rattle.gp_isa.specs.Calls.{IsProgram};
 ghost use Rattle.gp_isa.specs.Trace.{trace, is_local};
 ghost use Rattle.gp_stack.specs.Goroutine.{next_point, is_ended, labels_of, local_ahead, stack_of};
 ghost use Rattle.gp_stack.specs.Peek.{then_at};
@@ -33,6 +34,7 @@ pub struct Body {
 fn most_calls(program: &Program) -> u16
     ensures calls { result ≡ length program.now.functions }
     ensures few { result ≤ 256 }
+    ensures program { IsProgram program.now }
 {
     program.parts().functions.len() as u16
 }
@@ -58,7 +60,6 @@ impl Body {
     pub fn born(&mut self, program: &Program, start: u32, set: u8)
         requires room { HasRoom program.now self.old }
         requires function { start < length program.now.functions }
-        requires short { length (trace program.now start) < 2 ^ 64 }
         ensures stands { StandsIn program.now self.new }
         ensures progress { progress_of self.new ≡ record { start = start; set = set; count = 0 } }
     {
