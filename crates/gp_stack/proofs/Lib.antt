@@ -9,3 +9,4 @@ pub mod Shown
 pub mod Peeks
 pub mod Looking
 pub mod Short
+pub mod Conditions
