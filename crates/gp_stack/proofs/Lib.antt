@@ -10,3 +10,4 @@ pub mod Peeks
 pub mod Looking
 pub mod Short
 pub mod Conditions
+pub mod Deep

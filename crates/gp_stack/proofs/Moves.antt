@@ -194,10 +194,10 @@ unfolding left
 left_none parts = refl
 
 -- a function is begun with its whole trace left
-pub left_begin : (parts : Parts) (f calls : ℕ) (outer : List Level) → calls ≡ length parts.functions → outer ≡ [] → left parts (record { at = 0; turns = 0; calls = calls; function = f; loops = 8 } ∷ reverse outer) ≡ trace parts f
+pub left_begin : (parts : Parts) (f calls : ℕ) (outer : List Level) → trace_within parts calls f ≡ trace parts f → outer ≡ [] → left parts (record { at = 0; turns = 0; calls = calls; function = f; loops = 8 } ∷ reverse outer) ≡ trace parts f
 unfolding trace
 left_begin parts f calls outer all none =
     let level : Level = record { at = 0; turns = 0; calls = calls; function = f; loops = 8 } in
     let begun : left parts (level ∷ []) ≡ trace_within parts calls f =
     left_cons parts level [] ∙ (rw (left_none parts, no_callers parts (is_base level), body_of_call parts level [] calls f, call_here parts level calls f) (append-nil (map (called_from []) (trace_within parts calls f)) ∙ map_no_callers (trace_within parts calls f))) in
-    ap (λ ls. left parts (level ∷ reverse ls)) none ∙ (begun ∙ ap (λ depth. trace_within parts depth f) all)
+    ap (λ ls. left parts (level ∷ reverse ls)) none ∙ (begun ∙ all)

@@ -1,6 +1,7 @@
 -- Places in a trace, and the moves between them that pass no point.
-use Rattle.std.specs.Prelude.{◌≡◌, ◌+◌, ◌*◌, ◌≤◌, ℕ, zero, suc, List, [], ◌∷◌, length, reverse, vec_capacity}
+use Rattle.std.specs.Prelude.{◌≡◌, ◌+◌, ◌-◌, ◌*◌, ◌≤◌, ℕ, zero, suc, List, [], ◌∷◌, length, reverse, vec_capacity}
 use Rattle.gp_isa.specs.declared.parts.Parts.{Parts}
+use Rattle.gp_isa.specs.Size.{depth_of}
 use Rattle.gp_isa.specs.declared.statement.What.TheOpen.{Work, Call, Loop}
 use Rattle.gp_isa.specs.Statement.{Action}
 use Rattle.gp_stack.specs.declared.level.Level.{Level}
@@ -39,9 +40,9 @@ called zero f level outer = stepped (level ∷ outer)
 called (suc calls) f level outer =
     record { at = 0; turns = 0; calls = calls; function = f; loops = 8 } ∷ stepped (level ∷ outer)
 
--- how many levels stand around another one at most
+-- How many levels stand around another one at most: nine for each frame, the innermost one apart.
 abbrev pub room : Parts → ℕ
-room parts = 9 * length parts.functions + 8
+room parts = 9 * (depth_of parts - 1) + 8
 
 -- Each level leaves room for those that may still be entered from it.
 abbrev pub Fit : ℕ → List Level → Type 0

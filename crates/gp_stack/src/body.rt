@@ -1,6 +1,7 @@
-ghost use Rattle.std.specs.Prelude.{◌≡◌, ◌+◌, ◌<◌, ◌≤◌, ◌^◌, ℕ, true, false, length, IfOk, min, map, take, drop};
+ghost use Rattle.std.specs.Prelude.{◌≡◌, ◌+◌, ◌-◌, ◌<◌, ◌≤◌, ◌^◌, ℕ, true, false, length, IfOk, min, map, take, drop};
 ghost use Rattle.gp_isa.specs.declared.parts.Parts.{Parts};
 ghost use Rattle.gp_isa.specs.Calls.{IsProgram};
+ghost use Rattle.gp_isa.specs.Size.{depth_of};
 ghost use Rattle.gp_isa.specs.Trace.{trace, is_local};
 ghost use Rattle.gp_stack.specs.Goroutine.{next_point, is_ended, labels_of, local_ahead, stack_of};
 ghost use Rattle.gp_stack.specs.Peek.{then_at};
@@ -30,13 +31,14 @@ pub struct Body {
     place: Place,
 }
 
-/// How many calls are followed at most inside each other.
+/// How many calls are followed at most inside each other: one less than a stack has frames.
 fn most_calls(program: &Program) -> u16
-    ensures calls { result ≡ length program.now.functions }
-    ensures few { result ≤ 256 }
+    ensures calls { result ≡ depth_of program.now - 1 }
+    ensures few { length program.now.functions ≤ 256 }
     ensures program { IsProgram program.now }
 {
-    program.parts().functions.len() as u16
+    let _ = program.parts();
+    program.depth().saturating_sub(1) as u16
 }
 
 impl Body {

@@ -1,7 +1,8 @@
-ghost use Rattle.std.specs.Prelude.{◌≡◌, ◌+◌, ◌*◌, ◌<◌, ◌≤◌, ◌^◌, List, [], ◌∷◌, ◌++◌, IsTrue, length, reverse, vec_len, vec_capacity, drop, IfOk, Option};
+ghost use Rattle.std.specs.Prelude.{◌≡◌, ◌+◌, ◌-◌, ◌*◌, ◌<◌, ◌≤◌, ◌^◌, List, [], ◌∷◌, ◌++◌, IsTrue, length, reverse, vec_len, vec_capacity, drop, IfOk, Option};
 ghost use Rattle.std.specs.Bool.{OnTrue, OnFalse};
 ghost use Rattle.gp_stack.specs.Place.{levels, stepped, left_behind, looped, called, room, IsIn, IsSettled};
-ghost use Rattle.gp_isa.specs.Trace.{trace};
+ghost use Rattle.gp_isa.specs.Trace.{trace, trace_within};
+ghost use Rattle.gp_isa.specs.Size.{depth_of};
 ghost use Rattle.gp_stack.specs.Level.{left, body_at};
 ghost use Rattle.gp_stack.specs.Ahead.{IsAhead, HasNext};
 ghost use Rattle.gp_stack.specs.Peek.{peek_of, steps};
@@ -190,7 +191,8 @@ impl Place {
     /// Begins function `f`, with calls followed `calls` deep.
     pub(crate) fn begin(&mut self, program: &Program, f: u8, calls: u16)
         requires room { room program.now ≤ vec_capacity self.old.outer }
-        requires calls { calls ≡ length program.now.functions }
+        requires calls { calls ≡ depth_of program.now - 1 }
+        requires whole { trace_within program.now calls f ≡ trace program.now f }
         ensures place { IsIn program.now self.new }
         ensures left { left program.now (levels self.new) ≡ trace program.now f }
         ensures settled { IsSettled program.now self.new.top (reverse self.new.outer.items) }

@@ -1,6 +1,8 @@
-use Rattle.std.proofs.Common.{refl, arith, reverse}
+use Rattle.std.proofs.Common.{refl, arith, reverse, ◌≡◌, subst, sym}
 use Rattle.gp_stack.specs.Goroutine.{labels_of}
 use Rattle.gp_stack.proofs.Stands.{part_zero, settled_point}
+use Rattle.gp_isa.specs.Trace.{trace_within, trace}
+use Rattle.gp_stack.proofs.Deep.{whole_within}
 use Rattle.gp_stack.proofs.Short.{trace_fits}
 use Rattle.gp_stack.proofs.body.Body.born.Goals as goal
 
@@ -15,3 +17,7 @@ returns-clause-stands c = record {
   short = trace_fits c.args.program.now c.args.start c.most_calls-calls.ensures.program c.requires.function;
   labels = refl;
 }
+
+pub begin-requires-clause-whole : goal.begin-requires-clause-whole
+begin-requires-clause-whole c =
+    subst (λ calls. trace_within c.args.program.now calls c.args.start ≡ trace c.args.program.now c.args.start) (sym c.most_calls-calls.ensures.calls) (whole_within c.args.program.now c.most_calls-calls.ensures.program c.args.start c.requires.function)
