@@ -3,12 +3,11 @@ use Rattle.std.proofs.Common.{◌≡◌, ◌<◌, ◌≤◌, ◌+◌, ◌-◌, �
 use Rattle.std.proofs.lemmas.Bool.{cases_lt}
 use Rattle.std.proofs.lemmas.List.{length-append}
 use Rattle.std.specs.List.{flat_map}
-use Rattle.gp_isa.specs.declared.frame.Frame.{Frame}
 use Rattle.gp_isa.specs.declared.parts.Parts.{Parts}
 use Rattle.gp_isa.specs.declared.statement.Stmt.{Stmt}
 use Rattle.gp_isa.specs.declared.statement.What.TheOpen.{Work, Call, Loop, Send, Recv, Lock, Unlock, Spawn, Labels}
 use Rattle.gp_isa.specs.Statement.{Action, action_of, line_of}
-use Rattle.gp_isa.specs.Trace.{Point, Local, point_at, called_at, repeated, points_at, points_of_body, body_of, trace_within, trace}
+use Rattle.gp_isa.specs.Trace.{Point, called_at, repeated, points_at, points_of_body, body_of, trace_within, trace}
 use Rattle.gp_isa.specs.Calls.{IsProgram}
 use Rattle.gp_isa.specs.Size.{most_frames, most_frames_below, depth_of}
 use Rattle.gp_isa.proofs.Sizes.{most_frames-append, most_frames-repeated}

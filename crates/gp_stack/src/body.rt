@@ -17,9 +17,10 @@ use crate::statement::Ahead;
 use gp_isa::{Memory, Program};
 use std::alloc::Global;
 
-/// Where a goroutine stands in a program, told by frames and the turns of its loops.
+/// Where a goroutine stands in a program, told by levels and the turns of its loops.
 ///
-/// A body has room for one program, and each call that takes a program has to be given that one.
+/// A body has room for the frames of one program, nine levels of 16 bytes each, and each call that takes a program
+/// has to be given that one.
 #[derive(Drop)]
 pub struct Body {
     start: u32,
