@@ -1,0 +1,13 @@
+pub mod Costs
+pub mod Levels
+pub mod Moves
+pub mod Points
+pub mod Settle
+pub mod Stands
+pub mod Climbing
+pub mod Shown
+pub mod Peeks
+pub mod Looking
+pub mod Short
+pub mod Conditions
+pub mod Deep

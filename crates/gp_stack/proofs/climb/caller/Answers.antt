@@ -1,0 +1,7 @@
+use Rattle.std.proofs.Common.{refl}
+use Rattle.gp_stack.specs.Level.{frame_of}
+use Rattle.gp_stack.proofs.climb.caller.Goals as goal
+
+pub returns : goal.returns
+unfolding frame_of
+returns c = rw (c.line.ensures, c.body-body.ensures, c.parts.ensures.parts, c.as_slice.ensures.value, c.saturating_sub.ensures) refl

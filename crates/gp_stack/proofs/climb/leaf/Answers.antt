@@ -1,0 +1,7 @@
+use Rattle.std.proofs.Common.{refl}
+use Rattle.gp_stack.specs.Level.{leaf_of}
+use Rattle.gp_stack.proofs.climb.leaf.Goals as goal
+
+pub returns : goal.returns
+unfolding leaf_of
+returns c = rw (c.line.ensures, c.body-body.ensures, c.parts.ensures.parts, c.as_slice.ensures.value) refl

@@ -1,0 +1,32 @@
+use Rattle.std.proofs.Common.{◌≤◌, ◌-◌, ◌+◌, ◌*◌, ℕ, length, drop}
+use Rattle.gp_isa.specs.Trace.{repeated}
+use Rattle.gp_stack.specs.Peek.{steps, points_of_all}
+use Rattle.gp_stack.proofs.Peeks.{Sees}
+use Rattle.gp_stack.proofs.peek.+look.Given as goal
+
+abbrev pub decreases-look_at : goal.decreases-look_at
+decreases-look_at l = 3 * (9 * l.calls + l.loops)
+
+abbrev pub decreases-look_on : goal.decreases-look_on
+decreases-look_on l = 3 * (9 * l.calls + l.loops) + 1
+
+abbrev pub decreases-look_turns : goal.decreases-look_turns
+decreases-look_turns l = 3 * (9 * l.calls + l.loops) + 2
+
+abbrev pub invariant-look_on-loop-at : goal.invariant-look_on-loop-at
+invariant-look_on-loop-at l = record {
+  few : l.local ≤ l.limit;
+  sees : (f : ℕ) → Sees (steps (points_of_all l.program l.calls l.loops f (drop l.from l.statements))) l.limit l.local (steps (points_of_all l.program l.calls l.loops f (drop l.at l.statements)));
+}
+
+abbrev pub decreases-look_on-loop-at : goal.decreases-look_on-loop-at
+decreases-look_on-loop-at l = length l.statements - l.at
+
+abbrev pub invariant-look_turns-loop-turns : goal.invariant-look_turns-loop-turns
+invariant-look_turns-loop-turns l = record {
+  few : l.local ≤ l.limit;
+  sees : (f : ℕ) → Sees (steps (repeated l.n (points_of_all l.program l.calls l.loops f l.statements))) l.limit l.local (steps (repeated l.turns (points_of_all l.program l.calls l.loops f l.statements)));
+}
+
+abbrev pub decreases-look_turns-loop-turns : goal.decreases-look_turns-loop-turns
+decreases-look_turns-loop-turns l = l.turns

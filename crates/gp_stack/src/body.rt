@@ -1,0 +1,241 @@
+ghost use Rattle.std.specs.Prelude.{◌≡◌, ◌+◌, ◌-◌, ◌<◌, ◌≤◌, ◌^◌, ℕ, true, false, length, IfOk, min, map, take, drop};
+ghost use Rattle.gp_isa.specs.declared.parts.Parts.{Parts};
+ghost use Rattle.gp_isa.specs.Calls.{IsProgram};
+ghost use Rattle.gp_isa.specs.Size.{depth_of};
+ghost use Rattle.gp_isa.specs.Trace.{trace, is_local};
+ghost use Rattle.gp_stack.specs.Goroutine.{next_point, is_ended, labels_of, local_ahead, stack_of};
+ghost use Rattle.gp_stack.specs.Peek.{then_at};
+ghost use Rattle.gp_stack.specs.Word.{word_of};
+ghost use Rattle.gp_stack.specs.Body.{Progress, progress_of, HasRoom, StandsIn, IsAtShared};
+
+use crate::climb::{Climb, leaf, word};
+use crate::level::LOOPS;
+use crate::peek::{Peek, Then, look_work};
+use crate::place::Place;
+use crate::record::Stack;
+use crate::statement::Ahead;
+use gp_isa::{Memory, Program};
+use std::alloc::Global;
+
+/// Where a goroutine stands in a program, told by levels and the turns of its loops.
+///
+/// A body has room for the frames of one program, nine levels of 16 bytes each, and each call that takes a program
+/// has to be given that one.
+#[derive(Drop)]
+pub struct Body {
+    start: u32,
+    set: u8,
+    labels: u8,
+    count: u64,
+    // the points of the next statement that were passed
+    passed: u32,
+    place: Place,
+}
+
+/// How many calls are followed at most inside each other: one less than a stack has frames.
+fn most_calls(program: &Program) -> u16
+    ensures calls { result ≡ depth_of program.now - 1 }
+    ensures few { length program.now.functions ≤ 256 }
+    ensures program { IsProgram program.now }
+{
+    let _ = program.parts();
+    program.depth().saturating_sub(1) as u16
+}
+
+impl Body {
+    /// A body with room for the frames of any goroutine of a program.
+    pub fn vacant(alloc: Global, program: &Program) -> Result<Body, Memory>
+        ensures { IfOk result (λ body. HasRoom program.now body) }
+    {
+        let most = most_calls(program);
+        let levels = 9 * most as usize + LOOPS as usize;
+        Ok(Body {
+            start: 0,
+            set: 0,
+            labels: 0,
+            count: 0,
+            passed: 0,
+            place: Place::vacant(alloc, levels)?,
+        })
+    }
+
+    /// Begins the trace of function `start`, with label set `set`.
+    pub fn born(&mut self, program: &Program, start: u32, set: u8)
+        requires room { HasRoom program.now self.old }
+        requires function { start < length program.now.functions }
+        ensures stands { StandsIn program.now self.new }
+        ensures progress { progress_of self.new ≡ record { start = start; set = set; count = 0 } }
+    {
+        let calls = most_calls(program);
+        self.start = start;
+        self.set = set;
+        self.labels = set;
+        self.count = 0;
+        self.passed = 0;
+        self.place.begin(program, start as u8, calls);
+    }
+
+    /// How many points were passed.
+    pub fn count(&self) -> u64
+        ensures { result ≡ (progress_of self.now).count }
+    {
+        self.count
+    }
+
+    /// The function that is run.
+    pub fn start(&self) -> u32
+        ensures { result ≡ (progress_of self.now).start }
+    {
+        self.start
+    }
+
+    /// The number of the label set.
+    pub fn labels(&self) -> u8
+        ensures { (parts : Parts) → StandsIn parts self.now → let p = progress_of self.now in result ≡ labels_of (trace parts p.start) p.set p.count }
+    {
+        self.labels
+    }
+
+    /// Passes `n` local points. It takes time by the statements and turns that it crosses, however large `n` is.
+    pub fn advance(&mut self, program: &Program, n: u64)
+        requires stands { StandsIn program.now self.old }
+        requires ahead { let p = progress_of self.old in n ≤ local_ahead (trace program.now p.start) p.count }
+        ensures stands { StandsIn program.now self.new }
+        ensures progress { progress_of self.new ≡ record (progress_of self.old) { count = (progress_of self.old).count + n } }
+    {
+        let mut left = n;
+        while left > 0 {
+            left -= self.advance_some(program, left);
+        }
+    }
+
+    /// Passes the next point, which is shared.
+    pub fn pass(&mut self, program: &Program)
+        requires stands { StandsIn program.now self.old }
+        requires shared { let p = progress_of self.old in IsAtShared (trace program.now p.start) p.count }
+        ensures stands { StandsIn program.now self.new }
+        ensures progress { progress_of self.new ≡ record (progress_of self.old) { count = (progress_of self.old).count + 1 } }
+    {
+        match self.place.ahead(program) {
+            Ahead::Shared(_) => {
+                self.count += 1;
+                self.place.pass(program);
+            }
+            Ahead::End => unreachable!(),
+            Ahead::Work(_) => unreachable!(),
+            Ahead::Labels(_) => unreachable!(),
+            Ahead::Loop(_, _) => unreachable!(),
+            Ahead::Call(_) => unreachable!(),
+        }
+    }
+
+    /// How many local points are ahead, at most `limit`, and what comes behind them. It looks no further.
+    pub fn peek(&self, program: &Program, limit: u64) -> Peek
+        requires { StandsIn program.now self.now }
+        ensures local { let p = progress_of self.now in result.local ≡ min limit (local_ahead (trace program.now p.start) p.count) }
+        ensures then { let p = progress_of self.now in result.then ≡ then_at (trace program.now p.start) (p.count + result.local) }
+    {
+        match self.place.ahead(program) {
+            Ahead::Work(n) => {
+                let first = look_work(n - self.passed, limit);
+                self.place.look_past(program, first, limit)
+            }
+            Ahead::Labels(_) => self.place.look_past(program, look_work(1, limit), limit),
+            Ahead::Shared(operation) => Peek {
+                local: 0,
+                then: Then::Shared(operation),
+            },
+            Ahead::End => Peek {
+                local: 0,
+                then: Then::Over,
+            },
+            Ahead::Loop(_, _) => unreachable!(),
+            Ahead::Call(_) => unreachable!(),
+        }
+    }
+
+    /// The stack of the next point, the leaf first, cut to its first `max` frames.
+    pub fn stack(&self, alloc: Global, program: &Program, max: u32) -> Result<Stack, Memory>
+        requires stands { StandsIn program.now self.now }
+        requires going { let p = progress_of self.now in is_ended (trace program.now p.start) p.count ≡ false }
+        ensures { let p = progress_of self.now in IfOk result (λ stack. stack ≡ take max (stack_of (trace program.now p.start) p.count)) }
+    {
+        if max == 0 {
+            return Ok(Stack::new(alloc));
+        }
+        let mut frames = Vec::new(alloc);
+        frames.push(leaf(program, &self.place))?;
+        let mut climb = Climb::new(&self.place);
+        while frames.len() < max as usize {
+            match climb.next(&self.place, program) {
+                Some(frame) => frames.push(frame)?,
+                None => return Ok(Stack::from_vec(frames)),
+            }
+        }
+        Ok(Stack::from_vec(frames))
+    }
+
+    /// Writes the words of the stack of the next point, the leaf first, as many as there is room for, and says how
+    /// many. A frame's word is its function times 2^32 plus its line.
+    pub fn stack_words(&self, program: &Program, to: &mut [u64]) -> usize
+        requires stands { StandsIn program.now self.now }
+        requires going { let p = progress_of self.now in is_ended (trace program.now p.start) p.count ≡ false }
+        ensures count { let p = progress_of self.now in result ≡ min (length to.old) (length (stack_of (trace program.now p.start) p.count)) }
+        ensures words { let p = progress_of self.now in take result to.new ≡ map word_of (take result (stack_of (trace program.now p.start) p.count)) }
+        ensures rest { drop result to.new ≡ drop result to.old }
+    {
+        if to.is_empty() {
+            return 0;
+        }
+        to[0] = word(leaf(program, &self.place));
+        let mut written = 1;
+        let mut climb = Climb::new(&self.place);
+        while written < to.len() {
+            match climb.next(&self.place, program) {
+                Some(frame) => {
+                    to[written] = word(frame);
+                    written += 1;
+                }
+                None => return written,
+            }
+        }
+        written
+    }
+
+    /// Passes up to `n` local points of one statement, and says how many.
+    fn advance_some(&mut self, program: &Program, n: u64) -> u64
+        requires stands { StandsIn program.now self.old }
+        requires some { 0 < n }
+        requires ahead { n ≤ local_ahead (trace program.now self.old.start) self.old.count }
+        ensures stands { StandsIn program.now self.new }
+        ensures progress { progress_of self.new ≡ record (progress_of self.old) { count = self.old.count + result } }
+        ensures some { 0 < result }
+        ensures within { result ≤ n }
+    {
+        match self.place.ahead(program) {
+            Ahead::Work(of) => {
+                let left = (of - self.passed) as u64;
+                if n < left {
+                    self.passed += n as u32;
+                    self.count += n;
+                    n
+                } else {
+                    self.passed = 0;
+                    self.count += left;
+                    self.place.pass(program);
+                    left
+                }
+            }
+            Ahead::Labels(set) => {
+                self.labels = set;
+                self.count += 1;
+                self.place.pass(program);
+                1
+            }
+            Ahead::End => unreachable!(),
+            Ahead::Loop(_, _) => unreachable!(),
+            Ahead::Call(_) => unreachable!(),
+            Ahead::Shared(_) => unreachable!(),
+        }
+    }
+}

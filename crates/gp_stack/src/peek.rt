@@ -1,0 +1,203 @@
+ghost use Rattle.std.specs.Prelude.{◌≡◌, ◌+◌, ◌≤◌, ◌<◌, ◌^◌, ℕ, drop, reverse, replicate, None, []};
+ghost use Rattle.std.specs.Bool.{OnTrue, OnFalse};
+ghost use Rattle.gp_isa.specs.Statement.{Action};
+ghost use Rattle.gp_isa.specs.Trace.{repeated};
+ghost use Rattle.gp_stack.specs.Ahead.{Does};
+ghost use Rattle.gp_stack.specs.Level.{body_at, left_here};
+ghost use Rattle.gp_stack.specs.declared.peek.Then.TheVariants.{Over};
+ghost use Rattle.gp_stack.specs.Peek.{peek_of, steps, points_of_action, points_of_all};
+
+use crate::level::{LOOPS, Level, body, function_body};
+use crate::statement::{Ahead, Operation, statement_at};
+use gp_isa::{Program, Stmt};
+
+/// What comes behind local points.
+#[derive(Clone, Copy, Debug, PartialEq, Eq)]
+pub enum Then {
+    /// One more local point.
+    Local,
+    /// A shared point.
+    Shared(Operation),
+    /// The end of the trace.
+    Over,
+}
+
+/// So many local points are ahead, up to a limit, and then this comes.
+#[derive(Clone, Copy, Debug, PartialEq, Eq)]
+pub struct Peek {
+    pub local: u64,
+    pub then: Then,
+}
+
+impl Peek {
+    /// Nothing comes behind the local points.
+    pub(crate) fn is_over(self) -> bool
+        ensures over { OnTrue result (self.then ≡ Over) }
+        ensures more { OnFalse result (self.then ≡ Over → ⊥) }
+    {
+        match self.then {
+            Then::Over => true,
+            Then::Local => false,
+            Then::Shared(_) => false,
+        }
+    }
+}
+
+/// `n` local points.
+pub(crate) fn look_work(n: u32, limit: u64) -> Peek
+    ensures finds { result ≡ peek_of (replicate n None) limit }
+    ensures few { result.local ≤ limit }
+{
+    let n = n as u64;
+    if limit < n {
+        Peek {
+            local: limit,
+            then: Then::Local,
+        }
+    } else {
+        Peek {
+            local: n,
+            then: Then::Over,
+        }
+    }
+}
+
+/// The points of statement `at`, with calls and loops followed so deep.
+#[cycle(look)]
+fn look_at(
+    program: &Program,
+    calls: u16,
+    loops: u8,
+    statements: &[Stmt],
+    at: usize,
+    limit: u64,
+) -> Peek
+    requires { loops ≤ 8 }
+    ensures { (f line : ℕ) (a : Action) → Does statements.now at a → result ≡ peek_of (steps (points_of_action program.now calls loops f line a)) limit }
+{
+    let nothing = Peek {
+        local: 0,
+        then: Then::Over,
+    };
+    match statement_at(statements, at) {
+        Ahead::End => nothing,
+        Ahead::Work(n) => look_work(n, limit),
+        Ahead::Labels(_) => look_work(1, limit),
+        Ahead::Loop(n, inner) => {
+            if loops == 0 {
+                return nothing;
+            }
+            look_turns(program, calls, loops - 1, inner, n, limit)
+        }
+        Ahead::Call(h) => {
+            if calls == 0 {
+                return nothing;
+            }
+            if h as usize >= program.parts().functions.len() {
+                return nothing;
+            }
+            let called = function_body(program.parts(), h as u8);
+            look_on(program, calls - 1, LOOPS, called, 0, limit)
+        }
+        Ahead::Shared(operation) => Peek {
+            local: 0,
+            then: Then::Shared(operation),
+        },
+    }
+}
+
+/// The points of the statements from `from` on.
+#[cycle(look)]
+pub(crate) fn look_on(
+    program: &Program,
+    calls: u16,
+    loops: u8,
+    statements: &[Stmt],
+    from: usize,
+    limit: u64,
+) -> Peek
+    requires { loops ≤ 8 }
+    ensures { (f : ℕ) → result ≡ peek_of (steps (points_of_all program.now calls loops f (drop from statements.now))) limit }
+{
+    let mut local = 0;
+    let mut at = from;
+    while at < statements.len() {
+        let seen = look_at(program, calls, loops, statements, at, limit - local);
+        local += seen.local;
+        if !seen.is_over() {
+            return Peek {
+                local,
+                then: seen.then,
+            };
+        }
+        at += 1;
+    }
+    Peek {
+        local,
+        then: Then::Over,
+    }
+}
+
+/// The points of `n` turns of a body.
+#[cycle(look)]
+pub(crate) fn look_turns(
+    program: &Program,
+    calls: u16,
+    loops: u8,
+    statements: &[Stmt],
+    n: u32,
+    limit: u64,
+) -> Peek
+    requires { loops ≤ 8 }
+    ensures { (f : ℕ) → result ≡ peek_of (steps (repeated n (points_of_all program.now calls loops f statements.now))) limit }
+{
+    let mut local = 0;
+    let mut turns = n;
+    while turns > 0 {
+        let seen = look_on(program, calls, loops, statements, 0, limit - local);
+        local += seen.local;
+        if !seen.is_over() {
+            return Peek {
+                local,
+                then: seen.then,
+            };
+        }
+        turns -= 1;
+    }
+    Peek {
+        local,
+        then: Then::Over,
+    }
+}
+
+/// The points that are left of a level, `outer` being the levels around it.
+pub(crate) fn look_level(program: &Program, level: Level, outer: &[Level], limit: u64) -> Peek
+    requires { level.loops ≤ 8 }
+    ensures { result ≡ peek_of (steps (left_here program.now level (body_at program.now level (reverse outer.now)))) limit }
+{
+    let statements = body(program.parts(), level, outer);
+    let first = look_on(
+        program,
+        level.calls,
+        level.loops,
+        statements,
+        level.at,
+        limit,
+    );
+    if !first.is_over() {
+        return first;
+    }
+    let left = limit - first.local;
+    let again = look_turns(
+        program,
+        level.calls,
+        level.loops,
+        statements,
+        level.turns,
+        left,
+    );
+    Peek {
+        local: first.local + again.local,
+        then: again.then,
+    }
+}

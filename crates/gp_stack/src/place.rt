@@ -1,0 +1,264 @@
+ghost use Rattle.std.specs.Prelude.{◌≡◌, ◌+◌, ◌-◌, ◌*◌, ◌<◌, ◌≤◌, ◌^◌, List, [], ◌∷◌, ◌++◌, IsTrue, length, reverse, vec_len, vec_capacity, drop, IfOk, Option};
+ghost use Rattle.std.specs.Bool.{OnTrue, OnFalse};
+ghost use Rattle.gp_stack.specs.Place.{levels, stepped, left_behind, looped, called, room, IsIn, IsSettled};
+ghost use Rattle.gp_isa.specs.Trace.{trace, trace_within};
+ghost use Rattle.gp_isa.specs.Size.{depth_of};
+ghost use Rattle.gp_stack.specs.Level.{left, body_at};
+ghost use Rattle.gp_stack.specs.Ahead.{IsAhead, HasNext};
+ghost use Rattle.gp_stack.specs.Peek.{peek_of, steps};
+ghost use Rattle.gp_stack.specs.declared.statement.Operation.{Operation};
+ghost use Rattle.gp_stack.specs.Cost.{cost};
+
+use crate::level::{LOOPS, Level, body};
+use crate::peek::{Peek, Then, look_level};
+use crate::statement::{Ahead, statement_at};
+use gp_isa::{Memory, Program};
+use std::alloc::Global;
+
+/// A place in the trace of a function: the level of the next statement, and those around it, the outermost first.
+#[derive(Drop)]
+pub(crate) struct Place {
+    pub(crate) top: Level,
+    pub(crate) outer: Vec<Level>,
+}
+
+impl Place {
+    /// A place with room for so many levels around another one.
+    pub(crate) fn vacant(alloc: Global, levels: usize) -> Result<Place, Memory>
+        ensures { IfOk result (λ place. levels ≤ vec_capacity place.outer) }
+    {
+        Ok(Place {
+            top: Level {
+                at: 0,
+                turns: 0,
+                calls: 0,
+                function: 0,
+                loops: LOOPS,
+            },
+            outer: Vec::with_capacity(alloc, levels)?,
+        })
+    }
+
+    /// Goes on to the next statement.
+    fn skip(&mut self)
+        requires { self.old.top.at + 1 < 2 ^ 64 }
+        ensures levels { levels self.new ≡ stepped (levels self.old) }
+        ensures room { vec_capacity self.new.outer ≡ vec_capacity self.old.outer }
+    {
+        self.top.at += 1;
+    }
+
+    /// Goes into a level, from which the next statement is come back to.
+    fn enter(&mut self, level: Level)
+        requires next { self.old.top.at + 1 < 2 ^ 64 }
+        requires room { vec_len self.old.outer < vec_capacity self.old.outer }
+        ensures levels { levels self.new ≡ level ∷ stepped (levels self.old) }
+        ensures room { vec_capacity self.new.outer ≡ vec_capacity self.old.outer }
+    {
+        self.top.at += 1;
+        self.outer.push_reserved(self.top);
+        self.top = level;
+    }
+
+    /// At the end of a level: takes its next turn, or goes back to the level around it, where there is one.
+    fn leave(&mut self) -> bool
+        ensures left { OnTrue result (levels self.new ≡ left_behind (levels self.old)) }
+        ensures over { OnFalse result ((self.old.top.turns ≡ 0) × (self.old.outer.items ≡ [])) }
+        ensures stays { OnFalse result (levels self.new ≡ levels self.old) }
+        ensures room { vec_capacity self.new.outer ≡ vec_capacity self.old.outer }
+    {
+        if self.top.turns > 0 {
+            self.top.turns -= 1;
+            self.top.at = 0;
+            return true;
+        }
+        match self.outer.pop() {
+            Some(level) => {
+                self.top = level;
+                true
+            }
+            None => false,
+        }
+    }
+
+    /// Goes into a loop of `n` turns, at its end, or passes it by where loops stand too deep.
+    fn enter_loop(&mut self, n: u32, len: usize)
+        requires next { self.old.top.at + 1 < 2 ^ 64 }
+        requires room { vec_len self.old.outer + 9 * self.old.top.calls + self.old.top.loops ≤ vec_capacity self.old.outer }
+        ensures levels { levels self.new ≡ looped self.old.top.loops n len self.old.top (reverse self.old.outer.items) }
+        ensures room { vec_capacity self.new.outer ≡ vec_capacity self.old.outer }
+    {
+        if self.top.loops == 0 {
+            self.skip();
+            return;
+        }
+        let inner = Level {
+            at: len,
+            turns: n,
+            calls: self.top.calls,
+            function: self.top.function,
+            loops: self.top.loops - 1,
+        };
+        self.enter(inner);
+    }
+
+    /// Goes into function `f`, or passes the call by where calls aren't followed.
+    fn enter_call(&mut self, f: u8)
+        requires next { self.old.top.at + 1 < 2 ^ 64 }
+        requires room { vec_len self.old.outer + 9 * self.old.top.calls + self.old.top.loops ≤ vec_capacity self.old.outer }
+        ensures levels { levels self.new ≡ called self.old.top.calls f self.old.top (reverse self.old.outer.items) }
+        ensures room { vec_capacity self.new.outer ≡ vec_capacity self.old.outer }
+    {
+        if self.top.calls == 0 {
+            self.skip();
+            return;
+        }
+        let inner = Level {
+            at: 0,
+            turns: 0,
+            calls: self.top.calls - 1,
+            function: f,
+            loops: LOOPS,
+        };
+        self.enter(inner);
+    }
+
+    /// What stands at the place.
+    pub(crate) fn ahead<'a>(&self, program: &'a Program) -> Ahead<'a>
+        ensures ahead { IsAhead (body_at program.now self.now.top (reverse self.now.outer.items)) self.now.top.at result }
+        ensures within { HasNext self.now.top.at result }
+    {
+        let body = body(program.parts(), self.top, self.outer.as_slice());
+        statement_at(body, self.top.at)
+    }
+
+    /// A move towards the next point that passes none, where one is left.
+    fn step(&mut self, program: &Program) -> bool
+        requires { IsIn program.now self.old }
+        ensures place { IsIn program.now self.new }
+        ensures left { left program.now (levels self.new) ≡ left program.now (levels self.old) }
+        ensures falls { OnTrue result (cost program.now (levels self.new) < cost program.now (levels self.old)) }
+        ensures settled { OnFalse result (IsSettled program.now self.new.top (reverse self.new.outer.items)) }
+    {
+        match self.ahead(program) {
+            Ahead::End => self.leave(),
+            Ahead::Work(n) => {
+                if n == 0 {
+                    self.skip();
+                    return true;
+                }
+                false
+            }
+            Ahead::Labels(_) => false,
+            Ahead::Loop(n, inner) => {
+                self.enter_loop(n, inner.len());
+                true
+            }
+            Ahead::Call(f) => {
+                if (f as usize) < program.parts().functions.len() {
+                    self.enter_call(f as u8);
+                } else {
+                    self.skip();
+                }
+                true
+            }
+            Ahead::Shared(_) => false,
+        }
+    }
+
+    /// Goes on to the next point, or to the end.
+    pub(crate) fn settle(&mut self, program: &Program)
+        requires { IsIn program.now self.old }
+        ensures place { IsIn program.now self.new }
+        ensures left { left program.now (levels self.new) ≡ left program.now (levels self.old) }
+        ensures settled { IsSettled program.now self.new.top (reverse self.new.outer.items) }
+    {
+        while self.step(program) {}
+    }
+
+    /// Goes past the statement at the place, to the next point or to the end.
+    pub(crate) fn pass(&mut self, program: &Program)
+        requires place { IsIn program.now self.old }
+        requires next { self.old.top.at + 1 < 2 ^ 64 }
+        ensures place { IsIn program.now self.new }
+        ensures left { left program.now (levels self.new) ≡ left program.now (stepped (levels self.old)) }
+        ensures settled { IsSettled program.now self.new.top (reverse self.new.outer.items) }
+    {
+        self.skip();
+        self.settle(program);
+    }
+
+    /// Begins function `f`, with calls followed `calls` deep.
+    pub(crate) fn begin(&mut self, program: &Program, f: u8, calls: u16)
+        requires room { room program.now ≤ vec_capacity self.old.outer }
+        requires calls { calls ≡ depth_of program.now - 1 }
+        requires whole { trace_within program.now calls f ≡ trace program.now f }
+        ensures place { IsIn program.now self.new }
+        ensures left { left program.now (levels self.new) ≡ trace program.now f }
+        ensures settled { IsSettled program.now self.new.top (reverse self.new.outer.items) }
+    {
+        self.top = Level {
+            at: 0,
+            turns: 0,
+            calls,
+            function: f,
+            loops: LOOPS,
+        };
+        self.outer.clear();
+        self.settle(program);
+    }
+
+    /// The points behind the statement at the place.
+    fn look_behind(&self, program: &Program, limit: u64) -> Peek
+        requires place { IsIn program.now self.now }
+        requires next { self.now.top.at + 1 < 2 ^ 64 }
+        ensures { result ≡ peek_of (steps (left program.now (stepped (levels self.now)))) limit }
+    {
+        let mut top = self.top;
+        top.at += 1;
+        let first = look_level(program, top, self.outer.as_slice(), limit);
+        let mut local = first.local;
+        if !first.is_over() {
+            return first;
+        }
+        let mut around = self.outer.len();
+        while around > 0 {
+            around -= 1;
+            let level = self.outer[around];
+            let seen = look_level(
+                program,
+                level,
+                &self.outer.as_slice()[..around],
+                limit - local,
+            );
+            local += seen.local;
+            if !seen.is_over() {
+                return Peek {
+                    local,
+                    then: seen.then,
+                };
+            }
+        }
+        Peek {
+            local,
+            then: Then::Over,
+        }
+    }
+
+    /// What `first` found of the statement at the place, and then the points behind it.
+    pub(crate) fn look_past(&self, program: &Program, first: Peek, limit: u64) -> Peek
+        requires place { IsIn program.now self.now }
+        requires next { self.now.top.at + 1 < 2 ^ 64 }
+        requires few { first.local ≤ limit }
+        ensures { (xs : List (Option Operation)) → first ≡ peek_of xs limit → result ≡ peek_of (xs ++ steps (left program.now (stepped (levels self.now)))) limit }
+    {
+        if !first.is_over() {
+            return first;
+        }
+        let rest = self.look_behind(program, limit - first.local);
+        Peek {
+            local: first.local + rest.local,
+            then: rest.then,
+        }
+    }
+}
