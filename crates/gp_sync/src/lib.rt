@@ -7,5 +7,6 @@
 #![tactic(auto)]
 
 mod effect;
+mod lines;
 
 pub use effect::{Effect, Waiter};
