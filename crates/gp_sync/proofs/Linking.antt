@@ -1,12 +1,12 @@
 -- Links stand for lines again once a goroutine stands at a tail, or a head is gone.
 use Rattle.std.proofs.Common.{◌≡◌, ◌≢◌, ◌⊎◌, ℕ, zero, suc, ◌+◌, ◌-◌, ◌<◌, ◌≤◌, ◌^◌, Bool, true, false, cond, if◌then◌else◌, ◌==◌, List, [], ◌∷◌, ◌++◌, length, get_or, set, drop, map, replicate, sum_by, slice_get, Some, refl, sym, ap, ◌∙◌, subst, inl, inr, arith, add-one}
-use Rattle.std.proofs.lemmas.List.{get_or-set_same, get_or-set_other, length-set, length-map, map-set, length_push, get_or_past}
+use Rattle.std.proofs.lemmas.List.{get_or-set_same, get_or-set_other, length-set, length-map, map-set, length_push, get_or_past, set-get_or, length-replicate}
 use Rattle.std.proofs.lemmas.List.Sums.{sum_by-cons, sum_by-set, get_or-le-sum_by}
 use Rattle.std.proofs.lemmas.Bool.{cases_eq, cases_lt}
 use Rattle.gp_sync.specs.declared.effect.Waiter.{Waiter}
 use Rattle.gp_sync.specs.declared.lines.Line.{Line}
 use Rattle.gp_sync.specs.Places.{in_line}
-use Rattle.gp_sync.specs.Links.{no_line, line_from, behind, line_of, lines_of, with_last, without_head, AreLinked, linked, lengthened, shortened}
+use Rattle.gp_sync.specs.Links.{no_line, line_from, behind, line_of, lines_of, with_last, without_head, BeginsWith, AreLinked, linked, lengthened, shortened}
 use Rattle.gp_sync.proofs.Counts.{place, one_at, none_at, in_line-cons, in_line_push, two_places, length-of_different}
 use Rattle.gp_sync.proofs.Chains.{length-line_from, head_in, last_in, same_line, same_last, longer_line}
 
@@ -120,15 +120,27 @@ module _ (next since : List ℕ) (lines : List Line) (i : ℕ) (all : AreLinked 
   pub head_within : 0 < (get_or lines i no_line).length → (get_or lines i no_line).head < length next
   head_within some = stands_within (get_or lines i no_line).head i within (head_in_line (get_or lines i no_line).length refl some)
 
-first_of : (next since : List ℕ) (h n : ℕ) → 0 < n → slice_get (line_from next since h n) 0 ≡ Some (record { g = h; since = get_or since h 0 })
+first_of : (next since : List ℕ) (h n : ℕ) → 0 < n → BeginsWith (record { g = h; since = get_or since h 0 }) (line_from next since h n)
 first_of next since h zero some = absurd (omega arith)
 first_of next since h (suc m) some = refl
 
 -- the head of a line that isn't empty
-pub first_at : (next since : List ℕ) (lines : List Line) (i : ℕ) → 0 < (get_or lines i no_line).length → slice_get (get_or (lines_of next since lines) i []) 0 ≡ Some (record { g = (get_or lines i no_line).head; since = get_or since (get_or lines i no_line).head 0 })
+pub first_at : (next since : List ℕ) (lines : List Line) (i : ℕ) → 0 < (get_or lines i no_line).length → BeginsWith (record { g = (get_or lines i no_line).head; since = get_or since (get_or lines i no_line).head 0 }) (get_or (lines_of next since lines) i [])
 first_at next since lines i some =
-    ap (λ (line : List Waiter). slice_get line 0) (line_at next since lines i)
-    ∙ first_of next since (get_or lines i no_line).head (get_or lines i no_line).length some
+    rw (line_at next since lines i)
+    (first_of next since (get_or lines i no_line).head (get_or lines i no_line).length some)
+
+-- nobody stands in a line of length 0
+pub none_at_all : (next since : List ℕ) (lines : List Line) (i : ℕ) → (get_or lines i no_line).length ≡ 0 → get_or (lines_of next since lines) i [] ≡ []
+none_at_all next since lines i none =
+    line_at next since lines i ∙ ap (line_from next since (get_or lines i no_line).head) none
+
+-- a line on which nobody stands stays without a head
+pub no_head : (lines : List (List Waiter)) (i : ℕ) → get_or lines i [] ≡ [] → without_head lines i ≡ lines
+no_head lines i none =
+    ap (λ (row : List Waiter). set lines i (drop 1 row)) none
+    ∙ ap (set lines i) (sym none)
+    ∙ set-get_or lines i []
 
 -- A goroutine that stands nowhere comes to the tail of a line.
 module _ (next since : List ℕ) (lines : List Line) (i g clock : ℕ) (all : AreLinked next since lines) (within : i < length lines) (born : g < length next) (free : sum_by (in_line g) (lines_of next since lines) ≡ 0) where

@@ -9,6 +9,10 @@ pub record LineTable : Type 0 where
   pub cells : ℕ
   pub lines : List (List Waiter)
 
+-- a line with a goroutine at its head
+abbrev pub BeginsWith : Waiter → List Waiter → Type 0
+BeginsWith head line = line ≡ head ∷ drop 1 line
+
 -- the lines once one of them has another at its tail
 abbrev pub with_last : List (List Waiter) → ℕ → Waiter → List (List Waiter)
 with_last lines i last = slice_set lines i (slice_index_or lines i [] ++ last ∷ [])

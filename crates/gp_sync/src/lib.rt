@@ -8,5 +8,7 @@
 
 mod effect;
 mod lines;
+mod wait_lists;
 
 pub use effect::{Effect, Waiter};
+pub use wait_lists::WaitLists;

@@ -1,6 +1,6 @@
-ghost use Rattle.std.specs.Prelude.{◌≡◌, ◌<◌, ◌+◌, ◌^◌, [], ◌∷◌, ◌++◌, length, replicate, drop, sum_by, slice_get, slice_set, slice_index_or, IfOk};
+ghost use Rattle.std.specs.Prelude.{◌≡◌, ◌<◌, ◌+◌, ◌^◌, [], ◌∷◌, ◌++◌, length, replicate, sum_by, slice_index_or, IfOk, IfNone, IfSome};
 ghost use Rattle.gp_sync.specs.Places.{in_line};
-ghost use Rattle.gp_sync.specs.Links.{AreLinked, lines_of, linked, lengthened, shortened, with_last, without_head};
+ghost use Rattle.gp_sync.specs.Links.{AreLinked, lines_of, linked, lengthened, shortened, with_last, without_head, BeginsWith};
 
 use crate::effect::Waiter;
 use gp_isa::Memory;
@@ -104,7 +104,9 @@ fn pop_head(next: &[u32], since: &[u64], lines: &mut [Line], at: usize) -> Optio
     requires linked { AreLinked next.now since.now lines.old }
     requires there { at < length lines.old }
     ensures linked { AreLinked next.now since.now lines.new }
-    ensures head { result ≡ slice_get (slice_index_or (lines_of next.now since.now lines.old) at []) 0 }
+    ensures none { IfNone result (slice_index_or (lines_of next.now since.now lines.old) at [] ≡ []) }
+    ensures same { IfNone result (lines.new ≡ lines.old) }
+    ensures head { IfSome result (λ head. BeginsWith head (slice_index_or (lines_of next.now since.now lines.old) at [])) }
     ensures lines { lines_of next.now since.now lines.new ≡ without_head (lines_of next.now since.now lines.old) at }
 {
     let line = lines[at];
@@ -151,7 +153,9 @@ impl Lines {
     /// Takes the goroutine at the head of a line from it, if one waits.
     pub fn pop_front(&mut self, at: usize) -> Option<Waiter>
         requires { at < length self.old.lines }
-        ensures head { result ≡ slice_get (slice_index_or self.old.lines at []) 0 }
+        ensures none { IfNone result (slice_index_or self.old.lines at [] ≡ []) }
+        ensures same { IfNone result (self.new ≡ self.old) }
+        ensures head { IfSome result (λ head. BeginsWith head (slice_index_or self.old.lines at [])) }
         ensures rest { self.new ≡ record self.old { lines = without_head self.old.lines at } }
     {
         pop_head(&self.next, &self.since, &mut self.lines, at)

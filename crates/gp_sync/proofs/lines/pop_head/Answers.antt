@@ -18,7 +18,7 @@ returns-clause-linked c =
     (linked_popped c.args.next.now c.args.since.now c.args.lines.now c.args.at c.requires.linked c.requires.there)
 
 pub returns-clause-head : goal.returns-clause-head
-returns-clause-head c = sym (first_at c.args.next.now c.args.since.now c.args.lines.now c.args.at (omega arith))
+returns-clause-head c = first_at c.args.next.now c.args.since.now c.args.lines.now c.args.at (omega arith)
 
 pub returns-clause-lines : goal.returns-clause-lines
 returns-clause-lines c =
