@@ -174,15 +174,15 @@ module _ (next since : List ℕ) (lines : List Line) (i g clock : ℕ) (all : Ar
   kept_link : (j : ℕ) → j < length lines → j ≢ i → (k : ℕ) → 1 ≤ in_line k (line_of next since (get_or lines j no_line)) → get_or next' k 0 ≡ get_or next k 0
   kept_link j lt other k is_in =
       link_other next line.head line.tail line.length g k (λ some same.
-        let there = tail_in next since lines i all within i line.length within refl some in
-        let there' : 1 ≤ in_line k row = rw same there in
-        omega (arith, there', apart next since lines i all within k j lt other))
+      let there = tail_in next since lines i all within i line.length within refl some in
+      let there' : 1 ≤ in_line k row = rw same there in
+      omega (arith, there', apart next since lines i all within k j lt other))
 
   kept_clock : (j : ℕ) → j < length lines → (k : ℕ) → 1 ≤ in_line k (line_of next since (get_or lines j no_line)) → get_or since' k 0 ≡ get_or since k 0
   kept_clock j lt k is_in =
       get_or-set_other since g k clock 0 (λ same.
-        let none : in_line k (line_of next since (get_or lines j no_line)) ≡ 0 = rw same (nowhere j lt) in
-        omega (arith, none))
+      let none : in_line k (line_of next since (get_or lines j no_line)) ≡ 0 = rw same (nowhere j lt) in
+      omega (arith, none))
 
   kept : (j : ℕ) → j < length lines → j ≢ i → line_of next' since' (get_or lines j no_line) ≡ line_of next since (get_or lines j no_line)
   kept j lt other =
@@ -221,9 +221,9 @@ module _ (next since : List ℕ) (lines : List Line) (i g clock : ℕ) (all : Ar
   tail_pushed j (inl same) lt =
       subst (λ n. TailIsLast next' (get_or lines' n no_line)) (sym same)
       (rw (get_or-set_same lines i (lengthened line g) no_line within)
-        (λ some.
-          let e : line.length + 1 - 1 ≡ line.length = omega arith in
-          rw e (sym longer.1)))
+      (λ some.
+      let e : line.length + 1 - 1 ≡ line.length = omega arith in
+      rw e (sym longer.1)))
   tail_pushed j (inr other) (inl lt) =
       rw (get_or-set_other lines i j (lengthened line g) no_line other)
       (tail_kept next since next' (get_or lines j no_line).head (get_or lines j no_line).tail (get_or lines j no_line).length (all.tails j) (kept_link j lt other))
@@ -294,7 +294,7 @@ module _ (next since : List ℕ) (lines : List Line) (i : ℕ) (all : AreLinked 
   tail_popped j (inl same) =
       subst (λ n. 0 < (get_or shorter n no_line).length → (get_or shorter n no_line).tail ≡ behind next (get_or shorter n no_line).head ((get_or shorter n no_line).length - 1)) (sym same)
       (rw (get_or-set_same lines i (shortened next (get_or lines i no_line)) no_line within)
-        (shorter_tail next (get_or lines i no_line).head (get_or lines i no_line).tail (get_or lines i no_line).length (all.tails i)))
+      (shorter_tail next (get_or lines i no_line).head (get_or lines i no_line).tail (get_or lines i no_line).length (all.tails i)))
   tail_popped j (inr other) = rw (get_or-set_other lines i j (shortened next (get_or lines i no_line)) no_line other) (all.tails j)
 
   pub linked_popped : AreLinked next since shorter

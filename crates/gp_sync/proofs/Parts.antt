@@ -246,7 +246,7 @@ empty_state caps cells k m =
     let front : replicate {A = List Waiter} (k + k + m) [] ≡ replicate k [] ++ replicate (k + m) [] = ap (λ (j : ℕ). replicate {A = List Waiter} j []) (omega arith) ∙ sym (replicate-append-replicate k (k + m) []) in
     let behind : replicate {A = List Waiter} (k + m) [] ≡ replicate k [] ++ replicate m [] = sym (replicate-append-replicate k m []) in
     let channels : channels_of (replicate k 0) (replicate (k + k + m) []) (replicate (k + m) []) ≡ replicate k empty_channel =
-      ap (λ (rows : List (List Waiter)). channels_of (replicate k 0) rows (replicate (k + m) [])) front
-      ∙ ap (λ (rows : List (List Waiter)). channels_of (replicate k 0) (replicate k [] ++ replicate (k + m) []) rows) behind
-      ∙ channels_none k (replicate (k + m) []) (replicate m []) in
+    ap (λ (rows : List (List Waiter)). channels_of (replicate k 0) rows (replicate (k + m) [])) front
+    ∙ ap (λ (rows : List (List Waiter)). channels_of (replicate k 0) (replicate k [] ++ replicate (k + m) []) rows) behind
+    ∙ channels_none k (replicate (k + m) []) (replicate m []) in
     rw (len, once, twice, channels, mutexes_none m) refl

@@ -13,14 +13,18 @@ pub record WaitState : Type 0 where
   pub channels : List Channel
   pub mutexes : List Mutex
 
--- those of a program at its start: all channels are empty, all mutexes free
-abbrev pub at_start : Parts → ℕ → WaitState
-at_start program cells = record {
+-- empty channels of such capacities, and so many free mutexes
+abbrev pub empty_lists : ℕ → List ℕ → ℕ → WaitState
+empty_lists cells capacities mutexes = record {
   cells = cells;
-  capacities = map (λ (declared : ChannelDecl). declared.capacity) program.channels;
-  channels = replicate (length program.channels) empty_channel;
-  mutexes = replicate (length program.mutexes) free_mutex;
+  capacities = capacities;
+  channels = replicate (length capacities) empty_channel;
+  mutexes = replicate mutexes free_mutex;
 }
+
+-- those of a program at its start
+abbrev pub at_start : Parts → ℕ → WaitState
+at_start program cells = empty_lists cells (map (λ (declared : ChannelDecl). declared.capacity) program.channels) (length program.mutexes)
 
 -- the channel of a number
 abbrev pub channel : WaitState → ℕ → Channel

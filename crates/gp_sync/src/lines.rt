@@ -78,14 +78,7 @@ fn shortened(next: &[u32], line: Line) -> Line
 }
 
 // Lets g stand at the tail of a line.
-fn push_tail(
-    next: &mut [u32],
-    since: &mut [u64],
-    lines: &mut [Line],
-    at: usize,
-    g: u32,
-    clock: u64,
-)
+fn push_tail(next: &mut [u32], since: &mut [u64], lines: &mut [Line], at: usize, g: u32, clock: u64)
     requires linked { AreLinked next.old since.old lines.old }
     requires there { at < length lines.old }
     requires within { g < length next.old }

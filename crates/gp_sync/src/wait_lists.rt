@@ -1,8 +1,8 @@
-ghost use Rattle.std.specs.Prelude.{◌≡◌, ◌<◌, ◌+◌, ◌-◌, ◌^◌, [], ◌∷◌, ◌++◌, length, map, drop, nat_lt, slice_set, IsTrue, IfOk, IfNone, IfSome};
+ghost use Rattle.std.specs.Prelude.{◌≡◌, ◌<◌, ◌≤◌, ◌+◌, ◌-◌, ◌^◌, [], ◌∷◌, ◌++◌, length, map, drop, nat_lt, slice_set, IsTrue, IfOk, IfNone, IfSome};
 ghost use Rattle.gp_sync.specs.Operations.{send, recv, lock, unlock};
 ghost use Rattle.gp_sync.specs.Links.{BeginsWith};
 ghost use Rattle.gp_sync.specs.Places.{places_of};
-ghost use Rattle.gp_sync.specs.WaitState.{at_start, channel, capacity, mutex};
+ghost use Rattle.gp_sync.specs.WaitState.{at_start, empty_lists, channel, capacity, mutex};
 
 use crate::effect::{Effect, Waiter};
 use crate::lines::Lines;
@@ -52,9 +52,22 @@ impl WaitLists {
         ensures { IfOk result (λ lists. lists ≡ at_start program.now cells) }
     {
         let parts = program.parts();
-        let channels = parts.channels.len();
-        let mutexes = parts.mutexes.len();
         let capacities = capacities_of(alloc, parts.channels.as_slice())?;
+        WaitLists::empty(alloc, capacities, parts.mutexes.len(), cells)
+    }
+
+    // Those of channels with such capacities, and of so many mutexes.
+    fn empty(
+        alloc: Global,
+        capacities: Vec<u32>,
+        mutexes: usize,
+        cells: u32,
+    ) -> Result<WaitLists, Memory>
+        requires channels { length capacities.items ≤ 1024 }
+        requires mutexes { mutexes ≤ 1024 }
+        ensures { IfOk result (λ lists. lists ≡ empty_lists cells capacities.items mutexes) }
+    {
+        let channels = capacities.len();
         let buffered = vec![in alloc; 0; channels]?;
         let held = vec![in alloc; false; mutexes]?;
         let lines = Lines::new(alloc, cells, channels + channels + mutexes)?;
@@ -74,8 +87,7 @@ impl WaitLists {
         ensures head { IfSome result (λ head. BeginsWith head (channel self.old c).senders) }
         ensures rest { self.new ≡ record self.old { channels = slice_set self.old.channels c (record (channel self.old c) { senders = drop 1 (channel self.old c).senders }) } }
     {
-        let line = c;
-        self.lines.pop_front(line)
+        self.lines.pop_front(c)
     }
 
     // Takes the head receiver from its line.
@@ -109,8 +121,7 @@ impl WaitLists {
         requires waits_nowhere { places_of self.old.channels self.old.mutexes g ≡ 0 }
         ensures { self.new ≡ record self.old { channels = slice_set self.old.channels c (record (channel self.old c) { senders = (channel self.old c).senders ++ record { g = g; since = clock } ∷ [] }) } }
     {
-        let line = c;
-        self.lines.push_back(line, g, clock);
+        self.lines.push_back(c, g, clock);
     }
 
     // Lets g wait at the tail of the receivers.
@@ -285,4 +296,19 @@ impl WaitLists {
             }
         }
     }
+}
+
+// Wait lists of channels with such capacities, and of so many mutexes.
+#[cfg(test)]
+pub fn of_capacities(
+    alloc: Global,
+    capacities: &[u32],
+    mutexes: usize,
+    cells: u32,
+) -> Result<WaitLists, Memory>
+    requires channels { length capacities.now ≤ 1024 }
+    requires mutexes { mutexes ≤ 1024 }
+    ensures { IfOk result (λ lists. lists ≡ empty_lists cells capacities.now mutexes) }
+{
+    WaitLists::empty(alloc, Vec::from_slice(alloc, capacities)?, mutexes, cells)
 }

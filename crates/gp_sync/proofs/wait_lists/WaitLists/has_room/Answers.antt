@@ -17,11 +17,11 @@ returns-clause-answer c =
 pub returns-clause-fits : goal.returns-clause-fits
 returns-clause-fits c =
     λ yes.
-      let lt : c.args.c < length c.self.inside.buffered.items = there c.self.inside.capacities.items c.self.inside.buffered.items c.self.inside.held.items c.self.inside.lines c.self.invariant c.args.self.now c.self.view_is c.args.c c.requires in
-      let b = buffered_at c.self.inside.capacities.items c.self.inside.buffered.items c.self.inside.held.items c.self.inside.lines c.self.invariant c.args.c lt in
-      let x = get_or_read c.self.inside.buffered.items c.args.c c.index.result.now lt c.index.ensures 0 in
-      let below = ltb-true _ _ yes in
-      rw (← c.self.view_is, b) (omega (arith, x, below))
+    let lt : c.args.c < length c.self.inside.buffered.items = there c.self.inside.capacities.items c.self.inside.buffered.items c.self.inside.held.items c.self.inside.lines c.self.invariant c.args.self.now c.self.view_is c.args.c c.requires in
+    let b = buffered_at c.self.inside.capacities.items c.self.inside.buffered.items c.self.inside.held.items c.self.inside.lines c.self.invariant c.args.c lt in
+    let x = get_or_read c.self.inside.buffered.items c.args.c c.index.result.now lt c.index.ensures 0 in
+    let below = ltb-true _ _ yes in
+    rw (← c.self.view_is, b) (omega (arith, x, below))
 
 pub index-requires : goal.index-requires
 index-requires c =
