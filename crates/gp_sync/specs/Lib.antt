@@ -1,1 +1,5 @@
 pub mod Operations
+pub mod Places
+pub mod WaitState
+pub mod Links
+pub mod Layout

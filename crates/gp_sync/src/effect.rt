@@ -1,3 +1,5 @@
+ghost use Rattle.std.specs.Prelude.{◌≡◌};
+
 /// What an operation does to the goroutine that makes it.
 #[derive(Clone, Copy, Debug, PartialEq, Eq)]
 pub enum Effect {
@@ -16,4 +18,16 @@ pub enum Effect {
 pub struct Waiter {
     pub g: u32,
     pub since: u64,
+}
+
+impl Waiter {
+    /// That this one is woken.
+    pub fn woken(self) -> Effect
+        ensures { result ≡ Effect.Wakes self.g self.since }
+    {
+        Effect::Wakes {
+            g: self.g,
+            since: self.since,
+        }
+    }
 }

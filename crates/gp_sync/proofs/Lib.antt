@@ -1,0 +1,4 @@
+pub mod Counts
+pub mod Chains
+pub mod Linking
+pub mod Parts

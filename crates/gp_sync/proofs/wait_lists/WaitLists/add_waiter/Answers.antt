@@ -1,0 +1,38 @@
+use Rattle.std.proofs.Common.{◌≡◌, ℕ, ◌+◌, ◌<◌, List, [], ◌∷◌, ◌++◌, length, get_or, set, drop, refl, sym, ap, ◌∙◌, arith}
+use Rattle.gp_sync.specs.declared.effect.Waiter.{Waiter}
+use Rattle.gp_sync.specs.Layout.{IsLaidOut, state_of}
+use Rattle.gp_sync.proofs.Parts.{there_mutex, nowhere, waiters_at, waiters_by}
+use Rattle.gp_sync.proofs.wait_lists.WaitLists.add_waiter.Goals as goal
+
+pub overflow_add-line : goal.overflow_add-line
+overflow_add-line c =
+    let lt : c.args.m < length c.self.inside.held.items = there_mutex c.self.inside.capacities.items c.self.inside.buffered.items c.self.inside.held.items c.self.inside.lines c.self.invariant c.args.self.now c.self.view_is c.args.m c.requires.there in
+    let k : c.len.result ≡ length c.self.inside.buffered.items = c.len.ensures ∙ c.self.inside.buffered.ok.0 in
+    let k2 : c.len-2.result ≡ length c.self.inside.buffered.items = c.len-2.ensures ∙ c.self.inside.buffered.ok.0 in
+    omega (arith, c.self.invariant.line_each, c.self.invariant.few)
+
+pub overflow_add-line-2 : goal.overflow_add-line-2
+overflow_add-line-2 c =
+    let lt : c.args.m < length c.self.inside.held.items = there_mutex c.self.inside.capacities.items c.self.inside.buffered.items c.self.inside.held.items c.self.inside.lines c.self.invariant c.args.self.now c.self.view_is c.args.m c.requires.there in
+    let k : c.len.result ≡ length c.self.inside.buffered.items = c.len.ensures ∙ c.self.inside.buffered.ok.0 in
+    let k2 : c.len-2.result ≡ length c.self.inside.buffered.items = c.len-2.ensures ∙ c.self.inside.buffered.ok.0 in
+    omega (arith, c.self.invariant.line_each, c.self.invariant.few)
+
+pub push_back-requires-clause-there : goal.push_back-requires-clause-there
+push_back-requires-clause-there c =
+    let lt : c.args.m < length c.self.inside.held.items = there_mutex c.self.inside.capacities.items c.self.inside.buffered.items c.self.inside.held.items c.self.inside.lines c.self.invariant c.args.self.now c.self.view_is c.args.m c.requires.there in
+    let k : c.len.result ≡ length c.self.inside.buffered.items = c.len.ensures ∙ c.self.inside.buffered.ok.0 in
+    let k2 : c.len-2.result ≡ length c.self.inside.buffered.items = c.len-2.ensures ∙ c.self.inside.buffered.ok.0 in
+    omega (arith, c.self.invariant.line_each, c.self.invariant.few)
+
+pub push_back-requires-clause-waits_nowhere : goal.push_back-requires-clause-waits_nowhere
+push_back-requires-clause-waits_nowhere c =
+    nowhere c.self.inside.capacities.items c.self.inside.buffered.items c.self.inside.held.items c.self.inside.lines c.self.invariant c.args.self.now c.self.view_is c.args.g c.requires.waits_nowhere
+
+pub returns : goal.returns
+returns c =
+    let lt : c.args.m < length c.self.inside.held.items = there_mutex c.self.inside.capacities.items c.self.inside.buffered.items c.self.inside.held.items c.self.inside.lines c.self.invariant c.args.self.now c.self.view_is c.args.m c.requires.there in
+    let k : c.len.result ≡ length c.self.inside.buffered.items = c.len.ensures ∙ c.self.inside.buffered.ok.0 in
+    let k2 : c.len-2.result ≡ length c.self.inside.buffered.items = c.len-2.ensures ∙ c.self.inside.buffered.ok.0 in
+    rw (c.push_back.ensures, k, k2, ← c.self.view_is)
+    (waiters_by c.self.inside.capacities.items c.self.inside.buffered.items c.self.inside.held.items c.self.inside.lines c.self.invariant (λ (row : List Waiter). row ++ record { g = c.args.g; since = c.args.clock } ∷ []) c.args.m lt)

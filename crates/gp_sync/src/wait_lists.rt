@@ -1,0 +1,314 @@
+ghost use Rattle.std.specs.Prelude.{◌≡◌, ◌<◌, ◌≤◌, ◌+◌, ◌-◌, ◌^◌, [], ◌∷◌, ◌++◌, length, map, drop, nat_lt, slice_set, IsTrue, IfOk, IfNone, IfSome};
+ghost use Rattle.gp_sync.specs.Operations.{send, recv, lock, unlock};
+ghost use Rattle.gp_sync.specs.Links.{BeginsWith};
+ghost use Rattle.gp_sync.specs.Places.{places_of};
+ghost use Rattle.gp_sync.specs.WaitState.{at_start, empty_lists, channel, capacity, mutex};
+
+use crate::effect::{Effect, Waiter};
+use crate::lines::Lines;
+use gp_isa::{ChannelDecl, Memory, Program};
+use std::alloc::Global;
+use std::marker::Model;
+
+/// The channels and mutexes of a program, and who waits on them.
+///
+/// A call takes constant time, however many wait, and no memory.
+#[derive(Debug, Drop)]
+pub struct WaitLists {
+    // by channel: how many values its buffer may have, and how many it has
+    capacities: Vec<u32>,
+    buffered: Vec<u32>,
+    // by mutex
+    held: Vec<bool>,
+    // the senders by channel, then the receivers by channel, then those who wait for a mutex by mutex
+    lines: Lines,
+}
+
+impl Model for WaitLists {
+    ghost use Rattle.gp_sync.specs.WaitState.{WaitState};
+    ghost use Rattle.gp_sync.specs.Layout.{state_of, IsLaidOut};
+
+    ghost Value = { WaitState };
+
+    ghost view = { λ w. state_of w.capacities.items w.buffered.items w.held.items w.lines };
+
+    ghost invariant = { λ w. IsLaidOut w.capacities.items w.buffered.items w.held.items w.lines.lines };
+}
+
+fn capacities_of(alloc: Global, channels: &[ChannelDecl]) -> Result<Vec<u32>, Memory>
+    ensures { IfOk result (λ v. v.items ≡ map (λ declared. declared.capacity) channels.now) }
+{
+    let capacities = channels
+        .iter()
+        .map(|declared| declared.capacity)
+        .collect(alloc)?;
+    Ok(capacities)
+}
+
+impl WaitLists {
+    /// Those of a program, on which nobody waits yet, for goroutines whose numbers are below `cells`. They take all
+    /// their memory here: it grows with the sum of cells, channels and mutexes.
+    pub fn new(alloc: Global, program: &Program, cells: u32) -> Result<WaitLists, Memory>
+        ensures { IfOk result (λ lists. lists ≡ at_start program.now cells) }
+    {
+        let parts = program.parts();
+        let capacities = capacities_of(alloc, parts.channels.as_slice())?;
+        WaitLists::empty(alloc, capacities, parts.mutexes.len(), cells)
+    }
+
+    // Those of channels with such capacities, and of so many mutexes.
+    fn empty(
+        alloc: Global,
+        capacities: Vec<u32>,
+        mutexes: usize,
+        cells: u32,
+    ) -> Result<WaitLists, Memory>
+        requires channels { length capacities.items ≤ 1024 }
+        requires mutexes { mutexes ≤ 1024 }
+        ensures { IfOk result (λ lists. lists ≡ empty_lists cells capacities.items mutexes) }
+    {
+        let channels = capacities.len();
+        let buffered = vec![in alloc; 0; channels]?;
+        let held = vec![in alloc; false; mutexes]?;
+        let lines = Lines::new(alloc, cells, channels + channels + mutexes)?;
+        Ok(WaitLists {
+            capacities,
+            buffered,
+            held,
+            lines,
+        })
+    }
+
+    // Takes the head sender from its line.
+    fn next_sender(&mut self, c: usize) -> Option<Waiter>
+        requires { c < length self.old.channels }
+        ensures none { IfNone result ((channel self.old c).senders ≡ []) }
+        ensures same { IfNone result (self.new ≡ self.old) }
+        ensures head { IfSome result (λ head. BeginsWith head (channel self.old c).senders) }
+        ensures rest { self.new ≡ record self.old { channels = slice_set self.old.channels c (record (channel self.old c) { senders = drop 1 (channel self.old c).senders }) } }
+    {
+        self.lines.pop_front(c)
+    }
+
+    // Takes the head receiver from its line.
+    fn next_receiver(&mut self, c: usize) -> Option<Waiter>
+        requires { c < length self.old.channels }
+        ensures none { IfNone result ((channel self.old c).receivers ≡ []) }
+        ensures same { IfNone result (self.new ≡ self.old) }
+        ensures head { IfSome result (λ head. BeginsWith head (channel self.old c).receivers) }
+        ensures rest { self.new ≡ record self.old { channels = slice_set self.old.channels c (record (channel self.old c) { receivers = drop 1 (channel self.old c).receivers }) } }
+    {
+        let line = self.buffered.len() + c;
+        self.lines.pop_front(line)
+    }
+
+    // Takes the head of those who wait for a mutex from its line.
+    fn next_waiter(&mut self, m: usize) -> Option<Waiter>
+        requires { m < length self.old.mutexes }
+        ensures none { IfNone result ((mutex self.old m).waiters ≡ []) }
+        ensures same { IfNone result (self.new ≡ self.old) }
+        ensures head { IfSome result (λ head. BeginsWith head (mutex self.old m).waiters) }
+        ensures rest { self.new ≡ record self.old { mutexes = slice_set self.old.mutexes m (record (mutex self.old m) { waiters = drop 1 (mutex self.old m).waiters }) } }
+    {
+        let line = self.buffered.len() + (self.buffered.len() + m);
+        self.lines.pop_front(line)
+    }
+
+    // Lets g wait at the tail of the senders.
+    fn add_sender(&mut self, c: usize, g: u32, clock: u64)
+        requires there { c < length self.old.channels }
+        requires within { g < self.old.cells }
+        requires waits_nowhere { places_of self.old.channels self.old.mutexes g ≡ 0 }
+        ensures { self.new ≡ record self.old { channels = slice_set self.old.channels c (record (channel self.old c) { senders = (channel self.old c).senders ++ record { g = g; since = clock } ∷ [] }) } }
+    {
+        self.lines.push_back(c, g, clock);
+    }
+
+    // Lets g wait at the tail of the receivers.
+    fn add_receiver(&mut self, c: usize, g: u32, clock: u64)
+        requires there { c < length self.old.channels }
+        requires within { g < self.old.cells }
+        requires waits_nowhere { places_of self.old.channels self.old.mutexes g ≡ 0 }
+        ensures { self.new ≡ record self.old { channels = slice_set self.old.channels c (record (channel self.old c) { receivers = (channel self.old c).receivers ++ record { g = g; since = clock } ∷ [] }) } }
+    {
+        let line = self.buffered.len() + c;
+        self.lines.push_back(line, g, clock);
+    }
+
+    // Lets g wait for a mutex at the tail.
+    fn add_waiter(&mut self, m: usize, g: u32, clock: u64)
+        requires there { m < length self.old.mutexes }
+        requires within { g < self.old.cells }
+        requires waits_nowhere { places_of self.old.channels self.old.mutexes g ≡ 0 }
+        ensures { self.new ≡ record self.old { mutexes = slice_set self.old.mutexes m (record (mutex self.old m) { waiters = (mutex self.old m).waiters ++ record { g = g; since = clock } ∷ [] }) } }
+    {
+        let line = self.buffered.len() + (self.buffered.len() + m);
+        self.lines.push_back(line, g, clock);
+    }
+
+    fn has_room(&self, c: usize) -> bool
+        requires { c < length self.now.channels }
+        ensures answer { result ≡ nat_lt (channel self.now c).buffered (capacity self.now c) }
+        ensures fits { IsTrue result → (channel self.now c).buffered + 1 < 2 ^ 32 }
+    {
+        self.buffered[c] < self.capacities[c]
+    }
+
+    fn has_value(&self, c: usize) -> bool
+        requires { c < length self.now.channels }
+        ensures { result ≡ nat_lt 0 (channel self.now c).buffered }
+    {
+        self.buffered[c] > 0
+    }
+
+    // Puts a value into the buffer.
+    fn put(&mut self, c: usize)
+        requires there { c < length self.old.channels }
+        requires room { (channel self.old c).buffered + 1 < 2 ^ 32 }
+        ensures { self.new ≡ record self.old { channels = slice_set self.old.channels c (record (channel self.old c) { buffered = (channel self.old c).buffered + 1 }) } }
+    {
+        self.buffered[c] += 1;
+    }
+
+    // Takes a value from the buffer.
+    fn take(&mut self, c: usize)
+        requires there { c < length self.old.channels }
+        requires some { 0 < (channel self.old c).buffered }
+        ensures { self.new ≡ record self.old { channels = slice_set self.old.channels c (record (channel self.old c) { buffered = (channel self.old c).buffered - 1 }) } }
+    {
+        self.buffered[c] -= 1;
+    }
+
+    fn is_held(&self, m: usize) -> bool
+        requires { m < length self.now.mutexes }
+        ensures { result ≡ (mutex self.now m).held }
+    {
+        self.held[m]
+    }
+
+    fn set_held(&mut self, m: usize, held: bool)
+        requires { m < length self.old.mutexes }
+        ensures { self.new ≡ record self.old { mutexes = slice_set self.old.mutexes m (record (mutex self.old m) { held = held }) } }
+    {
+        self.held[m] = held;
+    }
+
+    // A send where no receiver waits.
+    fn put_or_wait(&mut self, c: usize, g: u32, clock: u64) -> Effect
+        requires there { c < length self.old.channels }
+        requires within { g < self.old.cells }
+        requires waits_nowhere { places_of self.old.channels self.old.mutexes g ≡ 0 }
+        requires none { (channel self.old c).receivers ≡ [] }
+        ensures effect { result ≡ (send (capacity self.old c) (channel self.old c) (record { g = g; since = clock })).0 }
+        ensures channel { self.new ≡ record self.old { channels = slice_set self.old.channels c (send (capacity self.old c) (channel self.old c) (record { g = g; since = clock })).1 } }
+    {
+        if self.has_room(c) {
+            self.put(c);
+            return Effect::Done;
+        }
+        self.add_sender(c, g, clock);
+        Effect::Blocks
+    }
+
+    // A receive where no sender waits.
+    fn take_or_wait(&mut self, c: usize, g: u32, clock: u64) -> Effect
+        requires there { c < length self.old.channels }
+        requires within { g < self.old.cells }
+        requires waits_nowhere { places_of self.old.channels self.old.mutexes g ≡ 0 }
+        requires none { (channel self.old c).senders ≡ [] }
+        ensures effect { result ≡ (recv (channel self.old c) (record { g = g; since = clock })).0 }
+        ensures channel { self.new ≡ record self.old { channels = slice_set self.old.channels c (recv (channel self.old c) (record { g = g; since = clock })).1 } }
+    {
+        if self.has_value(c) {
+            self.take(c);
+            return Effect::Done;
+        }
+        self.add_receiver(c, g, clock);
+        Effect::Blocks
+    }
+
+    /// Goroutine g sends on channel c, at a clock. It wakes the receiver that waits first, else fills the buffer, else
+    /// waits itself. It must not wait anywhere before.
+    pub fn send(&mut self, c: u32, g: u32, clock: u64) -> Effect
+        requires there { c < length self.old.channels }
+        requires within { g < self.old.cells }
+        requires waits_nowhere { places_of self.old.channels self.old.mutexes g ≡ 0 }
+        ensures effect { result ≡ (send (capacity self.old c) (channel self.old c) (record { g = g; since = clock })).0 }
+        ensures channel { self.new ≡ record self.old { channels = slice_set self.old.channels c (send (capacity self.old c) (channel self.old c) (record { g = g; since = clock })).1 } }
+    {
+        let c = c as usize;
+        match self.next_receiver(c) {
+            Some(head) => head.woken(),
+            None => self.put_or_wait(c, g, clock),
+        }
+    }
+
+    /// Goroutine g receives from channel c, at a clock. It wakes the sender that waits first, else takes from the
+    /// buffer, else waits itself. It must not wait anywhere before.
+    pub fn recv(&mut self, c: u32, g: u32, clock: u64) -> Effect
+        requires there { c < length self.old.channels }
+        requires within { g < self.old.cells }
+        requires waits_nowhere { places_of self.old.channels self.old.mutexes g ≡ 0 }
+        ensures effect { result ≡ (recv (channel self.old c) (record { g = g; since = clock })).0 }
+        ensures channel { self.new ≡ record self.old { channels = slice_set self.old.channels c (recv (channel self.old c) (record { g = g; since = clock })).1 } }
+    {
+        let c = c as usize;
+        match self.next_sender(c) {
+            Some(head) => head.woken(),
+            None => self.take_or_wait(c, g, clock),
+        }
+    }
+
+    /// Goroutine g locks mutex m, at a clock: it takes a free one, and else waits, also for one that it holds itself.
+    /// It must not wait anywhere before.
+    pub fn lock(&mut self, m: u32, g: u32, clock: u64) -> Effect
+        requires there { m < length self.old.mutexes }
+        requires within { g < self.old.cells }
+        requires waits_nowhere { places_of self.old.channels self.old.mutexes g ≡ 0 }
+        ensures effect { result ≡ (lock (mutex self.old m) (record { g = g; since = clock })).0 }
+        ensures mutex { self.new ≡ record self.old { mutexes = slice_set self.old.mutexes m (lock (mutex self.old m) (record { g = g; since = clock })).1 } }
+    {
+        let m = m as usize;
+        if self.is_held(m) {
+            self.add_waiter(m, g, clock);
+            return Effect::Blocks;
+        }
+        self.set_held(m, true);
+        Effect::Done
+    }
+
+    /// A goroutine unlocks mutex m, be it the one that holds it or not: it hands the mutex over to whoever waits
+    /// first, else frees it. To unlock a free one is a fault, which changes nothing.
+    pub fn unlock(&mut self, m: u32, _g: u32, _clock: u64) -> Effect
+        requires { m < length self.old.mutexes }
+        ensures effect { result ≡ (unlock (mutex self.old m)).0 }
+        ensures mutex { self.new ≡ record self.old { mutexes = slice_set self.old.mutexes m (unlock (mutex self.old m)).1 } }
+    {
+        let m = m as usize;
+        if !self.is_held(m) {
+            return Effect::Fault;
+        }
+        match self.next_waiter(m) {
+            Some(head) => head.woken(),
+            None => {
+                self.set_held(m, false);
+                Effect::Done
+            }
+        }
+    }
+}
+
+// Wait lists of channels with such capacities, and of so many mutexes.
+#[cfg(test)]
+pub fn of_capacities(
+    alloc: Global,
+    capacities: &[u32],
+    mutexes: usize,
+    cells: u32,
+) -> Result<WaitLists, Memory>
+    requires channels { length capacities.now ≤ 1024 }
+    requires mutexes { mutexes ≤ 1024 }
+    ensures { IfOk result (λ lists. lists ≡ empty_lists cells capacities.now mutexes) }
+{
+    WaitLists::empty(alloc, Vec::from_slice(alloc, capacities)?, mutexes, cells)
+}
