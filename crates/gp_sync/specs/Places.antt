@@ -1,5 +1,5 @@
 -- How many places goroutines have in the lines of channels and mutexes.
-use Rattle.std.specs.Prelude.{◌≡◌, ℕ, ◌+◌, ◌==◌, List, get_or, count_by, sum_by, IsTrue}
+use Rattle.std.specs.Prelude.{ℕ, ◌+◌, ◌==◌, List, count_by, sum_by}
 use Rattle.gp_sync.specs.declared.effect.Waiter.{Waiter}
 use Rattle.gp_sync.specs.Operations.{Channel, Mutex}
 

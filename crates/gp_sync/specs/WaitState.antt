@@ -1,10 +1,8 @@
 -- What wait lists are: the channels and mutexes of a program, with who waits on them.
-use Rattle.std.specs.Prelude.{◌≡◌, ℕ, ◌+◌, ◌<◌, ◌^◌, Bool, List, [], ◌∷◌, length, drop, slice_index_or, map, replicate}
+use Rattle.std.specs.Prelude.{ℕ, List, length, slice_index_or, map, replicate}
 use Rattle.gp_isa.specs.declared.parts.Parts.{Parts}
 use Rattle.gp_isa.specs.declared.parts.ChannelDecl.{ChannelDecl}
-use Rattle.gp_sync.specs.declared.effect.Waiter.{Waiter}
 use Rattle.gp_sync.specs.Operations.{Channel, Mutex, empty_channel, free_mutex}
-use Rattle.gp_sync.specs.Links.{LineTable}
 
 -- The channels with their capacities, and the mutexes, for goroutines whose numbers are below `cells`.
 pub record WaitState : Type 0 where

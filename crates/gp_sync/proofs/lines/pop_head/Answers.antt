@@ -1,5 +1,4 @@
-use Rattle.std.proofs.Common.{◌≡◌, ◌<◌, arith, sym, length, get_or}
-use Rattle.gp_sync.specs.Links.{no_line}
+use Rattle.std.proofs.Common.{arith}
 use Rattle.gp_sync.proofs.Linking.{head_within, first_at, linked_popped, without_popped}
 use Rattle.gp_sync.proofs.lines.pop_head.Goals as goal
 

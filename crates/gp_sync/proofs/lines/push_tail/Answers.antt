@@ -1,5 +1,3 @@
-use Rattle.std.proofs.Common.{◌≡◌, get_or, set}
-use Rattle.gp_sync.specs.Links.{no_line, linked, lengthened, AreLinked, lines_of, with_last}
 use Rattle.gp_sync.proofs.Linking.{tail_within, room, linked_pushed, with_pushed}
 use Rattle.gp_sync.proofs.lines.push_tail.Goals as goal
 

@@ -1,6 +1,5 @@
-use Rattle.std.proofs.Common.{◌≡◌, ◌<◌, ◌^◌, arith, rules, ap, ◌∙◌, sym, refl, length, replicate}
+use Rattle.std.proofs.Common.{◌≡◌, arith, ap, ◌∙◌, sym, refl, length}
 use Rattle.std.proofs.lemmas.List.{length-replicate}
-use Rattle.gp_sync.specs.Links.{no_line}
 use Rattle.gp_sync.proofs.Linking.{linked_new, lines_new}
 use Rattle.gp_sync.proofs.lines.Lines.new.Goals as goal
 

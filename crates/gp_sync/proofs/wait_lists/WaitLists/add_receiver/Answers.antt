@@ -1,7 +1,6 @@
-use Rattle.std.proofs.Common.{◌≡◌, ℕ, ◌+◌, ◌<◌, List, [], ◌∷◌, ◌++◌, length, get_or, set, drop, refl, sym, ap, ◌∙◌, arith}
+use Rattle.std.proofs.Common.{◌≡◌, ◌<◌, List, [], ◌∷◌, ◌++◌, length, ◌∙◌, arith}
 use Rattle.gp_sync.specs.declared.effect.Waiter.{Waiter}
-use Rattle.gp_sync.specs.Layout.{IsLaidOut, state_of}
-use Rattle.gp_sync.proofs.Parts.{there, nowhere, receivers_at, receivers_by}
+use Rattle.gp_sync.proofs.Parts.{there, nowhere, receivers_by}
 use Rattle.gp_sync.proofs.wait_lists.WaitLists.add_receiver.Goals as goal
 
 pub overflow_add-line : goal.overflow_add-line

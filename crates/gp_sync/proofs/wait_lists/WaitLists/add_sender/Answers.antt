@@ -1,7 +1,6 @@
-use Rattle.std.proofs.Common.{◌≡◌, ℕ, ◌+◌, ◌<◌, List, [], ◌∷◌, ◌++◌, length, get_or, set, drop, refl, sym, ap, ◌∙◌, arith}
+use Rattle.std.proofs.Common.{◌<◌, List, [], ◌∷◌, ◌++◌, length, arith}
 use Rattle.gp_sync.specs.declared.effect.Waiter.{Waiter}
-use Rattle.gp_sync.specs.Layout.{IsLaidOut, state_of}
-use Rattle.gp_sync.proofs.Parts.{there, nowhere, senders_at, senders_by}
+use Rattle.gp_sync.proofs.Parts.{there, nowhere, senders_by}
 use Rattle.gp_sync.proofs.wait_lists.WaitLists.add_sender.Goals as goal
 
 pub push_back-requires-clause-there : goal.push_back-requires-clause-there

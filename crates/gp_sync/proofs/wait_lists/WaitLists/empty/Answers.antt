@@ -1,4 +1,4 @@
-use Rattle.std.proofs.Common.{◌≡◌, ◌+◌, ◌∙◌, false, length, replicate}
+use Rattle.std.proofs.Common.{◌≡◌, ◌∙◌, length}
 use Rattle.gp_sync.proofs.Parts.{empty_state}
 use Rattle.gp_sync.proofs.wait_lists.WaitLists.empty.Goals as goal
 

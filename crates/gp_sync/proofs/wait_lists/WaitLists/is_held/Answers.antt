@@ -1,8 +1,6 @@
-use Rattle.std.proofs.Common.{◌≡◌, ℕ, ◌+◌, ◌-◌, ◌<◌, ◌^◌, Bool, false, true, length, get_or, set, refl, sym, ap, ◌∙◌, arith, nat_lt}
+use Rattle.std.proofs.Common.{◌<◌, false, length, refl, arith}
 use Rattle.std.proofs.lemmas.List.{get_or_read}
-use borrow.Author.Tests.{ltb-true}
-use Rattle.gp_sync.specs.WaitState.{capacity}
-use Rattle.gp_sync.proofs.Parts.{there, there_mutex, buffered_at, held_at, with_buffered, with_held}
+use Rattle.gp_sync.proofs.Parts.{there_mutex, held_at}
 use Rattle.gp_sync.proofs.wait_lists.WaitLists.is_held.Goals as goal
 
 pub index-requires : goal.index-requires

@@ -1,7 +1,5 @@
-use Rattle.std.proofs.Common.{◌≡◌, ℕ, ◌+◌, ◌<◌, List, [], ◌∷◌, ◌++◌, length, get_or, set, drop, refl, sym, ap, ◌∙◌, arith}
-use Rattle.gp_sync.specs.declared.effect.Waiter.{Waiter}
-use Rattle.gp_sync.specs.Layout.{IsLaidOut, state_of}
-use Rattle.gp_sync.proofs.Parts.{there, nowhere, senders_at, senders_by}
+use Rattle.std.proofs.Common.{◌<◌, length, drop, arith}
+use Rattle.gp_sync.proofs.Parts.{there, senders_at, senders_by}
 use Rattle.gp_sync.proofs.wait_lists.WaitLists.next_sender.Goals as goal
 
 pub pop_front-requires : goal.pop_front-requires

@@ -1,8 +1,6 @@
-use Rattle.std.proofs.Common.{◌≡◌, ℕ, ◌+◌, ◌-◌, ◌<◌, ◌^◌, Bool, false, true, length, get_or, set, refl, sym, ap, ◌∙◌, arith, nat_lt}
+use Rattle.std.proofs.Common.{◌-◌, ◌<◌, length, get_or, arith}
 use Rattle.std.proofs.lemmas.List.{get_or_read}
-use borrow.Author.Tests.{ltb-true}
-use Rattle.gp_sync.specs.WaitState.{capacity}
-use Rattle.gp_sync.proofs.Parts.{there, there_mutex, buffered_at, held_at, with_buffered, with_held}
+use Rattle.gp_sync.proofs.Parts.{there, buffered_at, with_buffered}
 use Rattle.gp_sync.proofs.wait_lists.WaitLists.take.Goals as goal
 
 pub index_mut-requires : goal.index_mut-requires
