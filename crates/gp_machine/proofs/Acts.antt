@@ -10,7 +10,7 @@ use Rattle.gp_machine.specs.declared.settings.Settings.{Settings}
 use Rattle.gp_machine.specs.State.{Code, State, goroutine, channel, mutex, births}
 use Rattle.gp_machine.specs.Due.{next_instruction}
 use Rattle.gp_machine.specs.Effect.{with_goroutine, unmarked, passes, blocks, faults, wakes, bears, meets, operates, waiter, acts}
-use Rattle.gp_machine.specs.Waiting.{places_of}
+use Rattle.gp_sync.specs.Places.{places_of}
 use Rattle.gp_machine.proofs.Whole.{seats, IsWhole}
 use Rattle.gp_machine.proofs.Parts.{one_if_eq, Balances, with_wait_lists, blocked_by}
 use Rattle.gp_machine.proofs.WaitLists.{send_moves, recv_moves, lock_moves, unlock_moves}

@@ -17,7 +17,8 @@ use Rattle.gp_machine.specs.Due.{next_instruction}
 use Rattle.gp_machine.specs.May.{May}
 use Rattle.gp_machine.specs.Effect.{with_goroutine, passed, unmarked, blocked_at, woken_at, child_of, waiter, passes, faults, bears, meets, operates, after}
 use Rattle.gp_machine.specs.Run.{AreLegal, after_all}
-use Rattle.gp_machine.specs.Waiting.{in_wait_list, in_channel, in_mutex, places_of, TellsClocks, WaitListsTell}
+use Rattle.gp_sync.specs.Places.{in_line, in_channel, in_mutex, places_of}
+use Rattle.gp_machine.specs.Waiting.{TellsClocks, WaitListsTell}
 use Rattle.gp_machine.specs.RunLaws.{WaitListsTellClocks}
 use Rattle.gp_machine.proofs.Places.{changed, pushed}
 use Rattle.gp_machine.proofs.Whole.{IsWhole, live_within}
@@ -44,7 +45,7 @@ set_clock : (gs new : List Goroutine) (g : ℕ) (y : Goroutine) → SameClocks g
 set_clock gs new g y same e = changed (λ k x. x.blocked ≡ (get_or gs k nobody).blocked) nobody new g y (e ∙ same g) same
 
 -- Where g stands in no wait list, its clock may change.
-tells_apart : (gs : List Goroutine) (g : ℕ) (y : Goroutine) (waiters : List Waiter) → in_wait_list g waiters ≤ 0 → TellsClocks gs waiters → TellsClocks (set gs g y) waiters
+tells_apart : (gs : List Goroutine) (g : ℕ) (y : Goroutine) (waiters : List Waiter) → in_line g waiters ≤ 0 → TellsClocks gs waiters → TellsClocks (set gs g y) waiters
 tells_apart gs g y [] none tells = tt
 tells_apart gs g y (x ∷ waiters) none tells =
     let parts = sum_by-cons (λ (w : Waiter). cond (w.g == g) 1 0) x waiters in

@@ -13,7 +13,7 @@ use Rattle.gp_machine.specs.May.{May, MayOpen, MayRecord}
 use Rattle.gp_machine.specs.Effect.{recorded, after}
 use Rattle.gp_machine.specs.Run.{AreLegal, after_all, last, at}
 use Rattle.gp_machine.specs.Frozen.{row, rows_taken, inserted, sorted}
-use Rattle.gp_machine.specs.Waiting.{in_channel, in_mutex, places_of}
+use Rattle.gp_sync.specs.Places.{in_channel, in_mutex, places_of}
 use Rattle.gp_machine.specs.JournalLaw.{KeepsEpochs, StandsAs, has_close, EpochsHold, UnrecordedStand, RowsAreFrozen}
 use Rattle.gp_machine.proofs.Places.{changed, none_counted}
 use Rattle.gp_machine.proofs.Whole.{IsWhole, Behind}

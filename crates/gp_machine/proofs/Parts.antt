@@ -11,7 +11,7 @@ use Rattle.gp_machine.specs.declared.goroutine.Worker.{Worker}
 use Rattle.gp_machine.specs.declared.settings.Settings.{Settings}
 use Rattle.gp_machine.specs.State.{Code, State, nobody, resting, goroutine, worker, is_running, is_dead, is_live}
 use Rattle.gp_machine.specs.Effect.{turned, is_over_after, unmarked, blocked_at, woken_at, left, worked, with_goroutine, with_worker, passes, wakes, resumes, meets}
-use Rattle.gp_machine.specs.Waiting.{places_of}
+use Rattle.gp_sync.specs.Places.{places_of}
 use Rattle.gp_machine.proofs.Places.{replaced, replaced_within}
 use Rattle.gp_machine.proofs.Whole.{seats, Behind, IsWhole, Running-same, live_within, unloads, keeps_running, keeps_standing, frees, wait_lists}
 

@@ -12,7 +12,7 @@ use Rattle.gp_machine.specs.State.{Code, State, nobody, resting, goroutine, work
 use Rattle.gp_machine.specs.Due.{asked, next_instruction}
 use Rattle.gp_machine.specs.May.{May, MayOpen, MayClose, is_recorded}
 use Rattle.gp_machine.specs.Effect.{turned, recorded, started, left, ticked, with_goroutine, starts, passes, faults, bears, operates, waiter, after}
-use Rattle.gp_machine.specs.Waiting.{places_of}
+use Rattle.gp_sync.specs.Places.{places_of}
 use Rattle.gp_machine.proofs.Places.{changed, replaced_within, none_counted}
 use Rattle.gp_machine.proofs.Whole.{seats, Behind, Fits, Whole, IsWhole, some_same, live_within, keeps_running, frees, gains}
 use Rattle.gp_machine.proofs.Parts.{live_status, running_last, off, passes_whole, resumes_whole, meets_whole}

@@ -5,15 +5,15 @@ use Rattle.gp_sync.specs.declared.effect.Effect.{Effect}
 use Rattle.gp_sync.specs.declared.effect.Effect.TheVariants.{Done, Blocks, Wakes, Fault}
 use Rattle.gp_sync.specs.declared.effect.Waiter.{Waiter}
 use Rattle.gp_sync.specs.Operations.{Channel, Mutex, empty_channel, free_mutex, send, send_to, recv, recv_from, lock, unlock, unlock_for}
-use Rattle.gp_machine.specs.Waiting.{in_wait_list, in_channel, in_mutex, places_of}
+use Rattle.gp_sync.specs.Places.{in_line, in_channel, in_mutex, places_of}
 use Rattle.gp_machine.proofs.Places.{sum_by-set_le}
 use Rattle.gp_machine.proofs.Parts.{one_if, Balances}
 
 -- a wait list behind its head, and with one more at its tail
-head_of : (k : ℕ) (head : Waiter) (rest waiters : List Waiter) → waiters ≡ head ∷ rest → in_wait_list k waiters ≡ one_if (head.g == k) + in_wait_list k rest
-head_of k head rest waiters e = ap (in_wait_list k) e ∙ sum_by-cons (λ (x : Waiter). cond (x.g == k) 1 0) head rest
+head_of : (k : ℕ) (head : Waiter) (rest waiters : List Waiter) → waiters ≡ head ∷ rest → in_line k waiters ≡ one_if (head.g == k) + in_line k rest
+head_of k head rest waiters e = ap (in_line k) e ∙ sum_by-cons (λ (x : Waiter). cond (x.g == k) 1 0) head rest
 
-tail_of : (k : ℕ) (waiters : List Waiter) (me : Waiter) → in_wait_list k (waiters ++ me ∷ []) ≡ in_wait_list k waiters + one_if (me.g == k)
+tail_of : (k : ℕ) (waiters : List Waiter) (me : Waiter) → in_line k (waiters ++ me ∷ []) ≡ in_line k waiters + one_if (me.g == k)
 tail_of k waiters me = sum_by_push (λ (x : Waiter). cond (x.g == k) 1 0) waiters me
 
 -- what an operation of g does to the number of places of goroutine k at one channel, or at one mutex

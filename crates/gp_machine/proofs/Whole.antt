@@ -8,7 +8,7 @@ use Rattle.gp_machine.specs.declared.goroutine.Status.{Status}
 use Rattle.gp_machine.specs.declared.goroutine.Status.TheVariants.{Runnable, Running, Blocked, Dead}
 use Rattle.gp_machine.specs.declared.goroutine.Worker.{Worker}
 use Rattle.gp_machine.specs.State.{State, nobody, resting, is_running, is_dead, is_live}
-use Rattle.gp_machine.specs.Waiting.{places_of}
+use Rattle.gp_sync.specs.Places.{places_of}
 use Rattle.gp_machine.proofs.Places.{changed, pushed}
 
 -- how many places in wait lists a goroutine may have

@@ -8,7 +8,8 @@ use Rattle.gp_machine.specs.State.{Code, State, goroutine, worker, is_dead, is_l
 use Rattle.gp_machine.specs.Due.{IsComplete}
 use Rattle.gp_machine.specs.Effect.{after}
 use Rattle.gp_machine.specs.Run.{IsLegal, last, at}
-use Rattle.gp_machine.specs.Waiting.{places_of, WaitListsTell}
+use Rattle.gp_sync.specs.Places.{places_of}
+use Rattle.gp_machine.specs.Waiting.{WaitListsTell}
 
 -- A legal journal's prefix is legal.
 abbrev pub PrefixesAreLegal : Type 0

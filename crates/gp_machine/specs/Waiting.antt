@@ -1,26 +1,10 @@
--- How many places goroutines have in the wait lists of channels and mutexes.
-use Rattle.std.specs.Prelude.{◌≡◌, ℕ, ◌+◌, List, count_by, sum_by, get_or, ◌==◌}
+-- What wait lists tell of the clocks at which goroutines blocked.
+use Rattle.std.specs.Prelude.{◌≡◌, ℕ, List, get_or}
 use Rattle.std.specs.List.{AllByRecursion}
 use Rattle.gp_sync.specs.declared.effect.Waiter.{Waiter}
 use Rattle.gp_sync.specs.Operations.{Channel, Mutex, empty_channel, free_mutex}
 use Rattle.gp_machine.specs.declared.goroutine.Goroutine.{Goroutine}
 use Rattle.gp_machine.specs.State.{nobody}
-
--- how many places g has in a wait list
-abbrev pub in_wait_list : ℕ → List Waiter → ℕ
-in_wait_list g waiters = count_by (λ (waiter : Waiter). waiter.g == g) waiters
-
--- in the two wait lists of a channel
-abbrev pub in_channel : ℕ → Channel → ℕ
-in_channel g channel = in_wait_list g channel.senders + in_wait_list g channel.receivers
-
--- in the wait list of a mutex
-abbrev pub in_mutex : ℕ → Mutex → ℕ
-in_mutex g mutex = in_wait_list g mutex.waiters
-
--- how many places g has in all wait lists
-unfoldable pub places_of : List Channel → List Mutex → ℕ → ℕ
-places_of channels mutexes g = sum_by (in_channel g) channels + sum_by (in_mutex g) mutexes
 
 -- The places of a wait list tell the clocks at which their goroutines blocked.
 abbrev pub TellsClocks : List Goroutine → List Waiter → Type 0
