@@ -179,7 +179,7 @@ pub ticks : Ticks (code_of six)
 ticks = subst Ticks (sym (code_is six six_traces six_same)) six_computed
 
 long_traces : List (List Point)
-long_traces = replicate 6000 (point_at 0 2 Local) ∷ []
+long_traces = replicate 20000 (point_at 0 2 Local) ∷ []
 
 long_same : (f : ℕ) → trace long f ≡ get_or long_traces f []
 unfolding long_traces trace trace_within

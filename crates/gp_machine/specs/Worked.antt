@@ -219,9 +219,9 @@ tick_journal = Start 0 0 ∷ Run 0 0 1 ∷ Tick 0 0 ∷ Run 0 0 1 ∷ Tick 0 0 �
 abbrev pub full_settings : Settings
 full_settings = record (plain (End ∷ [])) { entries = 16 }
 
--- func main { work 6000 }
+-- func main { work 20000 }
 abbrev pub long : Parts
-long = program_of (main_function 1 3 (statement 2 (what.Work 6000) ∷ []) ∷ [])
+long = program_of (main_function 1 3 (statement 2 (what.Work 20000) ∷ []) ∷ [])
 
 abbrev pub full_journal : List Entry
 full_journal =
