@@ -11,3 +11,4 @@ pub mod Leads
 pub mod Lengths
 pub mod Depth
 pub mod Examples
+pub mod Names

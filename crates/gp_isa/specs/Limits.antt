@@ -26,11 +26,15 @@ pub record IsPair (pair : Pair) : Type 0 where
   pub key : length pair.key ≤ 64
   pub value : length pair.value ≤ 64
 
--- The pairs of a label set: at most 16, the keys rising byte by byte, so that none stands twice.
+-- the keys rise byte by byte, so that none stands twice
+abbrev pub KeysRise : List Pair → Type 0
+KeysRise pairs = (k : ℕ) (d : Pair) → k + 1 < length pairs → slice_cmp nat_cmp (slice_index_or pairs k d).key (slice_index_or pairs (k + 1) d).key ≡ Less
+
+-- The pairs of a label set, at most 16.
 pub record ArePairs (pairs : List Pair) : Type 0 where
   pub few : length pairs ≤ 16
   pub each : All IsPair pairs
-  pub rising : (k : ℕ) (d : Pair) → k + 1 < length pairs → slice_cmp nat_cmp (slice_index_or pairs k d).key (slice_index_or pairs (k + 1) d).key ≡ Less
+  pub rising : KeysRise pairs
 
 -- Counts are at least 1, and what a statement names is there. `Within` says what a loop's body has to be.
 abbrev pub IsAction : Parts → (List Stmt → Type 0) → Action → Type 0
@@ -48,6 +52,11 @@ IsAction parts Within (Labels s) = (1 ≤ s) × (s ≤ length parts.labels)
 abbrev pub AreStatements : Parts → ℕ → List Stmt → Type 0
 AreStatements parts zero body = All (λ s. IsAction parts (λ _. ⊥) (action_of s)) body
 AreStatements parts (suc deep) body = All (λ s. IsAction parts (AreStatements parts deep) (action_of s)) body
+
+-- the statements of a loop's body, which there is none where no loop may stand
+abbrev pub AreInside : Parts → ℕ → List Stmt → Type 0
+AreInside parts zero body = ⊥
+AreInside parts (suc deep) body = AreStatements parts deep body
 
 -- The parts of a program file lie in its limits.
 pub record AreInLimits (parts : Parts) : Type 0 where

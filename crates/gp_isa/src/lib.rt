@@ -1,9 +1,10 @@
 //! Programs of the goroutine machine: what a program file declares, and the check that makes a program of it.
 //!
 //! A file declares functions, channels, mutexes and label sets (`Parts`), each named in statements by its place in its
-//! list, label sets counted from 1. Statements are a tree: a loop holds statements, at most eight loops deep. `check`
-//! takes parts that lie in their limits and gives a `Program` (`specs/Calls.antt`): the function `main` is there, no
-//! function and no loop is empty, no function can call itself, and no trace has more than 2^40 points.
+//! list, label sets counted from 1. Statements are a tree: a loop holds statements, at most eight loops deep.
+//! `Parts::in_limits` tells whether parts lie in their limits (`specs/Limits.antt`). `check` takes such parts and gives
+//! a `Program` (`specs/Calls.antt`): the function `main` is there, no function and no loop is empty, no function can
+//! call itself, and no trace has more than 2^40 points.
 //!
 //! What a program does is its trace (`specs/Trace.antt`): the list of points that whoever runs a function passes.
 //! No code builds that list. `check` finds how long the traces are and how deep their stacks (`specs/Size.antt`) from
@@ -22,6 +23,7 @@ mod calls;
 mod empty;
 mod frame;
 mod laws;
+mod limits;
 mod memory;
 mod parts;
 mod program;

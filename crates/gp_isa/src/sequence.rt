@@ -37,12 +37,14 @@ impl<T> Sequence<T> {
         }
     }
 
+    /// The list of a vector's elements, which takes no memory.
     pub fn from_vec(items: Vec<T>) -> Sequence<T>
         ensures { result ≡ items.items }
     {
         Sequence { items }
     }
 
+    /// The elements as a vector, which takes no memory.
     pub fn into_vec(self) -> Vec<T>
         ensures { result.items ≡ self }
     {
@@ -50,24 +52,28 @@ impl<T> Sequence<T> {
         items
     }
 
+    /// The elements, the first at index 0.
     pub fn as_slice(&self) -> &[T]
         ensures { result.now ≡ self.now }
     {
         self.items.as_slice()
     }
 
+    /// The elements one after another, the first first.
     pub fn iter(&self) -> slice::Iter<'_, T>
         ensures { iter_rest result ≡ self.now }
     {
         self.items.iter()
     }
 
+    /// The number of elements.
     pub fn len(&self) -> usize
         ensures { result ≡ length self.now }
     {
         self.items.len()
     }
 
+    /// Whether there is no element.
     pub fn is_empty(&self) -> bool
         ensures { IsTrue result ↔ (self.now ≡ []) }
     {

@@ -22,6 +22,7 @@ impl Model for Text {
 }
 
 impl Text {
+    /// The text of a string, which takes no memory.
     pub fn from_string(inner: String) -> Text
         ensures { result ≡ string_bytes inner }
     {
@@ -36,6 +37,7 @@ impl Text {
         Ok(Text { inner })
     }
 
+    /// The text as a string, which takes no memory.
     pub fn into_string(self) -> String
         ensures { string_bytes result ≡ self }
     {
@@ -43,12 +45,14 @@ impl Text {
         inner
     }
 
+    /// The characters of the text.
     pub fn as_str(&self) -> &str
         ensures { result.now ≡ self.now }
     {
         self.inner.as_str()
     }
 
+    /// The bytes of the text in UTF-8.
     pub fn as_bytes(&self) -> &[u8]
         ensures { result.now ≡ self.now }
     {
