@@ -1,6 +1,10 @@
 use super::*;
 use std::test::Fail;
 
+mod build;
+mod checks;
+mod limits;
+
 #[test]
 fn sequences_give_back_what_they_took(rt: HostRuntime) -> Result<(), Fail> {
     let mut bytes: Content = Sequence::new(rt.alloc());
