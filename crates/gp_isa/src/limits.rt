@@ -164,8 +164,8 @@ impl Parts {
     /// Whether the parts lie in their limits, which `check` requires: at most 256 functions, 1,024 channels of
     /// capacities up to 65,535, 1,024 mutexes and 255 label sets; names of at most 64 bytes, no two of one list
     /// alike; at most 16 pairs in a label set, their keys rising; counts of at least 1, loops at most eight deep,
-    /// and whatever a statement names is there. It takes no memory, and time by the statements and by the names
-    /// times the names, since it compares each two of one list.
+    /// and whatever a statement names is there. It takes no memory. Its time grows with the statements and with the
+    /// square of the names of a list, each two of which it compares.
     pub fn in_limits(&self) -> bool
         ensures { IsTrue result ↔ AreInLimits self.now }
     {

@@ -59,7 +59,7 @@ impl<T> Sequence<T> {
         self.items.as_slice()
     }
 
-    /// The elements one after another, the first first.
+    /// The elements in their order, by reference.
     pub fn iter(&self) -> slice::Iter<'_, T>
         ensures { iter_rest result ≡ self.now }
     {

@@ -45,7 +45,7 @@ impl Text {
         inner
     }
 
-    /// The characters of the text.
+    /// The text itself, not a copy.
     pub fn as_str(&self) -> &str
         ensures { result.now ≡ self.now }
     {
