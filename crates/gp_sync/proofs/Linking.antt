@@ -1,6 +1,7 @@
 -- Links stand for lines again once a goroutine stands at a tail, or a head is gone.
-use Rattle.std.proofs.Common.{◌≡◌, ◌≢◌, ◌⊎◌, ℕ, zero, suc, ◌+◌, ◌-◌, ◌<◌, ◌≤◌, ◌^◌, false, ◌==◌, List, [], ◌∷◌, ◌++◌, length, get_or, set, drop, map, replicate, sum_by, refl, sym, ap, ◌∙◌, subst, inl, inr, arith, add-one}
+use Rattle.std.proofs.Common.{◌≡◌, ◌≢◌, ◌⊎◌, ℕ, zero, suc, ◌+◌, ◌-◌, ◌<◌, ◌≤◌, ◌^◌, false, ◌==◌, List, [], ◌∷◌, ◌++◌, length, get_or, set, drop, map, replicate, sum_by, slice_get, Some, None, refl, sym, ap, ◌∙◌, subst, inl, inr, arith, add-one}
 use Rattle.std.proofs.lemmas.List.{get_or-set_same, get_or-set_other, length-set, length-map, map-set, length_push, get_or_past, set-get_or}
+use Rattle.std.proofs.lemmas.Option.{none-some, get_or_from_slice_get, slice_get_within}
 use Rattle.std.proofs.lemmas.List.Sums.{sum_by-cons, sum_by-set, get_or-le-sum_by}
 use Rattle.std.proofs.lemmas.Bool.{cases_eq, cases_lt}
 use Rattle.gp_sync.specs.declared.effect.Waiter.{Waiter}
@@ -120,20 +121,29 @@ module _ (next since : List ℕ) (lines : List Line) (i : ℕ) (all : AreLinked 
   pub head_within : 0 < (get_or lines i no_line).length → (get_or lines i no_line).head < length next
   head_within some = stands_within (get_or lines i no_line).head i within (head_in_line (get_or lines i no_line).length refl some)
 
-first_of : (next since : List ℕ) (h n : ℕ) → 0 < n → BeginsWith (record { g = h; since = get_or since h 0 }) (line_from next since h n)
-first_of next since h zero some = absurd (omega arith)
-first_of next since h (suc m) some = refl
+-- who stands first in a list, and that nobody does
+starts : (w : Waiter) (row : List Waiter) → Some w ≡ slice_get row 0 → BeginsWith w row
+starts w [] e = absurd (none-some w (sym e))
+starts w (v ∷ rest) e = ap (λ (x : Waiter). x ∷ rest) (get_or_from_slice_get (v ∷ rest) 0 w v (sym e))
 
--- the head of a line that isn't empty
-pub first_at : (next since : List ℕ) (lines : List Line) (i : ℕ) → 0 < (get_or lines i no_line).length → BeginsWith (record { g = (get_or lines i no_line).head; since = get_or since (get_or lines i no_line).head 0 }) (get_or (lines_of next since lines) i [])
-first_at next since lines i some =
-    rw (line_at next since lines i)
-    (first_of next since (get_or lines i no_line).head (get_or lines i no_line).length some)
+nobody : (row : List Waiter) → None ≡ slice_get row 0 → row ≡ []
+nobody [] e = refl
+nobody (v ∷ rest) e = absurd (none-some v e)
 
--- nobody stands in a line of length 0
-pub none_at_all : (next since : List ℕ) (lines : List Line) (i : ℕ) → (get_or lines i no_line).length ≡ 0 → get_or (lines_of next since lines) i [] ≡ []
-none_at_all next since lines i none =
-    line_at next since lines i ∙ ap (line_from next since (get_or lines i no_line).head) none
+module _ (next since : List ℕ) (lines : List Line) (i : ℕ) where
+  -- the head of a line
+  pub first_at : (w : Waiter) → Some w ≡ slice_get (line_of next since (get_or lines i no_line)) 0 → BeginsWith w (get_or (lines_of next since lines) i [])
+  first_at w e =
+      rw (line_at next since lines i) (starts w (line_of next since (get_or lines i no_line)) e)
+
+  -- a line with a head isn't empty
+  pub some_at : (w : Waiter) → Some w ≡ slice_get (line_of next since (get_or lines i no_line)) 0 → 0 < (get_or lines i no_line).length
+  some_at w e =
+      omega (arith, slice_get_within (line_of next since (get_or lines i no_line)) 0 w (sym e), length-line_from next since (get_or lines i no_line).head (get_or lines i no_line).length)
+
+  -- nobody stands in a line without a head
+  pub empty_line : None ≡ slice_get (line_of next since (get_or lines i no_line)) 0 → get_or (lines_of next since lines) i [] ≡ []
+  empty_line e = line_at next since lines i ∙ nobody (line_of next since (get_or lines i no_line)) e
 
 -- a line on which nobody stands stays without a head
 pub no_head : (lines : List (List Waiter)) (i : ℕ) → get_or lines i [] ≡ [] → without_head lines i ≡ lines

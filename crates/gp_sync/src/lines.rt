@@ -1,6 +1,6 @@
-ghost use Rattle.std.specs.Prelude.{◌≡◌, ◌<◌, ◌+◌, ◌^◌, [], ◌∷◌, ◌++◌, length, replicate, sum_by, slice_index_or, IfOk, IfNone, IfSome};
+ghost use Rattle.std.specs.Prelude.{◌≡◌, ℕ, List, ◌<◌, ◌+◌, ◌^◌, [], ◌∷◌, ◌++◌, length, replicate, sum_by, slice_get, slice_index_or, IfOk, IfNone, IfSome};
 ghost use Rattle.gp_sync.specs.Places.{in_line};
-ghost use Rattle.gp_sync.specs.Links.{AreLinked, lines_of, linked, lengthened, shortened, with_last, without_head, BeginsWith};
+ghost use Rattle.gp_sync.specs.Links.{AreLinked, line_of, lines_of, linked, lengthened, shortened, with_last, without_head, BeginsWith};
 
 use crate::effect::Waiter;
 use gp_isa::Memory;
@@ -92,6 +92,20 @@ fn push_tail(next: &mut [u32], since: &mut [u64], lines: &mut [Line], at: usize,
     lines[at] = lengthened(line, g);
 }
 
+// The goroutine at the head of a line, if one waits. Who stands behind whom doesn't matter.
+fn head(since: &[u64], line: Line) -> Option<Waiter>
+    requires { 0 < line.length → line.head < length since.now }
+    ensures { (next : List ℕ) → result ≡ slice_get (line_of next since.now line) 0 }
+{
+    if line.length == 0 {
+        return None;
+    }
+    Some(Waiter {
+        g: line.head,
+        since: since[line.head as usize],
+    })
+}
+
 // Takes the goroutine at the head of a line from it.
 fn pop_head(next: &[u32], since: &[u64], lines: &mut [Line], at: usize) -> Option<Waiter>
     requires linked { AreLinked next.now since.now lines.old }
@@ -103,15 +117,9 @@ fn pop_head(next: &[u32], since: &[u64], lines: &mut [Line], at: usize) -> Optio
     ensures lines { lines_of next.now since.now lines.new ≡ without_head (lines_of next.now since.now lines.old) at }
 {
     let line = lines[at];
-    if line.length == 0 {
-        return None;
-    }
-    let since = since[line.head as usize];
+    let head = head(since, line)?;
     lines[at] = shortened(next, line);
-    Some(Waiter {
-        g: line.head,
-        since,
-    })
+    Some(head)
 }
 
 impl Lines {
@@ -141,6 +149,15 @@ impl Lines {
             g,
             since,
         );
+    }
+
+    /// The goroutine at the head of a line, if one waits. It stays there.
+    pub fn front(&self, at: usize) -> Option<Waiter>
+        requires { at < length self.now.lines }
+        ensures { result ≡ slice_get (slice_index_or self.now.lines at []) 0 }
+    {
+        let line = self.lines[at];
+        head(&self.since, line)
     }
 
     /// Takes the goroutine at the head of a line from it, if one waits.

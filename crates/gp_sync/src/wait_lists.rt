@@ -1,4 +1,4 @@
-ghost use Rattle.std.specs.Prelude.{◌≡◌, ◌<◌, ◌≤◌, ◌+◌, ◌-◌, ◌^◌, [], ◌∷◌, ◌++◌, length, map, drop, nat_lt, slice_set, IsTrue, IfOk, IfNone, IfSome};
+ghost use Rattle.std.specs.Prelude.{◌≡◌, ◌<◌, ◌≤◌, ◌+◌, ◌-◌, ◌^◌, [], ◌∷◌, ◌++◌, length, map, drop, nat_lt, slice_get, slice_set, IsTrue, IfOk, IfNone, IfSome};
 ghost use Rattle.gp_sync.specs.Operations.{send, recv, lock, unlock};
 ghost use Rattle.gp_sync.specs.Links.{BeginsWith};
 ghost use Rattle.gp_sync.specs.Places.{places_of};
@@ -179,13 +179,6 @@ impl WaitLists {
         self.buffered[c] -= 1;
     }
 
-    fn is_held(&self, m: usize) -> bool
-        requires { m < length self.now.mutexes }
-        ensures { result ≡ (mutex self.now m).held }
-    {
-        self.held[m]
-    }
-
     fn set_held(&mut self, m: usize, held: bool)
         requires { m < length self.old.mutexes }
         ensures { self.new ≡ record self.old { mutexes = slice_set self.old.mutexes m (record (mutex self.old m) { held = held }) } }
@@ -259,6 +252,24 @@ impl WaitLists {
         }
     }
 
+    /// Whether mutex m is held.
+    pub fn is_held(&self, m: u32) -> bool
+        requires { m < length self.now.mutexes }
+        ensures { result ≡ (mutex self.now m).held }
+    {
+        self.held[m as usize]
+    }
+
+    /// Who waits first for mutex m, and since which clock, if anybody does: whoever an unlock of a held mutex would
+    /// hand it over to. Nothing changes.
+    pub fn first_waiter(&self, m: u32) -> Option<Waiter>
+        requires { m < length self.now.mutexes }
+        ensures { result ≡ slice_get (mutex self.now m).waiters 0 }
+    {
+        let line = self.buffered.len() + (self.buffered.len() + m as usize);
+        self.lines.front(line)
+    }
+
     /// Goroutine g locks mutex m, at a clock: it takes a free one, and else waits, also for one that it holds itself.
     /// It must not wait anywhere before.
     pub fn lock(&mut self, m: u32, g: u32, clock: u64) -> Effect
@@ -268,12 +279,11 @@ impl WaitLists {
         ensures effect { result ≡ (lock (mutex self.old m) (record { g = g; since = clock })).0 }
         ensures mutex { self.new ≡ record self.old { mutexes = slice_set self.old.mutexes m (lock (mutex self.old m) (record { g = g; since = clock })).1 } }
     {
-        let m = m as usize;
         if self.is_held(m) {
-            self.add_waiter(m, g, clock);
+            self.add_waiter(m as usize, g, clock);
             return Effect::Blocks;
         }
-        self.set_held(m, true);
+        self.set_held(m as usize, true);
         Effect::Done
     }
 
@@ -284,14 +294,13 @@ impl WaitLists {
         ensures effect { result ≡ (unlock (mutex self.old m)).0 }
         ensures mutex { self.new ≡ record self.old { mutexes = slice_set self.old.mutexes m (unlock (mutex self.old m)).1 } }
     {
-        let m = m as usize;
         if !self.is_held(m) {
             return Effect::Fault;
         }
-        match self.next_waiter(m) {
+        match self.next_waiter(m as usize) {
             Some(head) => head.woken(),
             None => {
-                self.set_held(m, false);
+                self.set_held(m as usize, false);
                 Effect::Done
             }
         }
