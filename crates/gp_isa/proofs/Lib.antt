@@ -12,3 +12,4 @@ pub mod Lengths
 pub mod Depth
 pub mod Examples
 pub mod Names
+pub mod NamedThere

@@ -7,3 +7,4 @@ pub mod Size
 pub mod Ways
 pub mod Kept
 pub mod WorkedTraces
+pub mod Names

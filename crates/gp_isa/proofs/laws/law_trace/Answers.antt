@@ -1,4 +1,5 @@
 use Rattle.gp_isa.proofs.Depth.{traces_are_whole, traces_follow_calls}
+use Rattle.gp_isa.proofs.NamedThere.{traces_name_what_is_there, trace-past}
 use Rattle.gp_isa.proofs.Examples.{loop_of_a_call, first_of_a_circle}
 use Rattle.gp_isa.proofs.laws.law_trace.Goals as goal
 
@@ -13,3 +14,9 @@ returns-clause-worked c = loop_of_a_call
 
 pub returns-clause-circular : goal.returns-clause-circular
 returns-clause-circular c = first_of_a_circle
+
+pub returns-clause-names : goal.returns-clause-names
+returns-clause-names c = traces_name_what_is_there
+
+pub returns-clause-elsewhere : goal.returns-clause-elsewhere
+returns-clause-elsewhere c = trace-past
