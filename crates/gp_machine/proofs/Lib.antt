@@ -1,4 +1,5 @@
 pub mod Places
+pub mod IdSets
 pub mod Whole
 pub mod Parts
 pub mod WaitLists
@@ -15,3 +16,17 @@ pub mod Bound
 pub mod Totals
 pub mod Clocks
 pub mod OnWorkers
+pub mod QueueLaw
+pub mod Stamps
+pub mod InLine
+pub mod Rings
+pub mod Written
+pub mod Queued
+pub mod Reached
+pub mod Lengths
+pub mod Ending
+pub mod Acting
+pub mod Marked
+pub mod Kept
+pub mod Judged
+pub mod Peeked

@@ -32,7 +32,7 @@ abbrev Matches : State → Type 0
 Matches s = AreOnWorkers s.goroutines s.workers
 
 -- a worker that runs something is one of the list
-worker_at : (ws : List Worker) (w g : ℕ) → (w < length ws) ⊎ (length ws ≤ w) → (get_or ws w resting).runs ≡ Some g → w < length ws
+pub worker_at : (ws : List Worker) (w g : ℕ) → (w < length ws) ⊎ (length ws ≤ w) → (get_or ws w resting).runs ≡ Some g → w < length ws
 worker_at ws w g (inl within) runs = within
 worker_at ws w g (inr past) runs = let none : None ≡ Some g = sym (ap (λ (v : Worker). v.runs) (get_or_past ws w resting past)) ∙ runs in absurd (cc)
 

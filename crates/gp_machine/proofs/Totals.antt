@@ -33,10 +33,10 @@ pub entries_are_counted : EntriesAreCounted
 entries_are_counted code settings journal = let e = counted code settings (first code settings) journal in omega arith
 
 -- What all states of a run keep together.
-record Kept (settings : Settings) (s : State) : Type 0 where
-  whole : IsWhole s
-  numbered : IsNumbered settings s
-  bounded : Bounded settings s
+pub record Kept (settings : Settings) (s : State) : Type 0 where
+  pub whole : IsWhole s
+  pub numbered : IsNumbered settings s
+  pub bounded : Bounded settings s
 
 kept_all : (code : Code) (settings : Settings) (s : State) (entries : List Entry) → Kept settings s → AreLegal code settings s entries → Kept settings (after_all code settings s entries)
 kept_all code settings s [] kept legal = kept
@@ -46,7 +46,7 @@ kept_all code settings s (entry ∷ entries) kept legal =
     let bounded = step_bounded code settings s entry kept.whole kept.numbered numbered legal.0 kept.bounded in
     kept_all code settings (after code settings s entry) entries (record { whole = whole; numbered = numbered; bounded = bounded }) legal.1
 
-kept_at : (code : Code) (settings : Settings) (journal : List Entry) → AreInRange settings → IsLegal code settings journal → Kept settings (last code settings journal)
+pub kept_at : (code : Code) (settings : Settings) (journal : List Entry) → AreInRange settings → IsLegal code settings journal → Kept settings (last code settings journal)
 kept_at code settings journal range legal =
     kept_all code settings (first code settings) journal
     (record { whole = first_whole code settings; numbered = first_numbered code settings range.some_cell; bounded = first_bounded code settings range }) legal

@@ -10,3 +10,10 @@ pub mod JournalLaw
 pub mod Worked
 pub mod RunLaws
 pub mod NumberLaws
+pub mod Named
+pub mod Answer
+pub mod IdSet
+pub mod Queue
+pub mod Crowd
+pub mod Present
+pub mod Made

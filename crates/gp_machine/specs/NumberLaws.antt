@@ -1,5 +1,5 @@
 -- Laws on the numbers of legal journals.
-use Rattle.std.specs.Prelude.{◌≡◌, ◌+◌, ◌*◌, ◌≤◌, ◌<◌, ℕ, true, List, length, sum_by}
+use Rattle.std.specs.Prelude.{◌≡◌, ◌⊎◌, ◌+◌, ◌*◌, ◌≤◌, ◌<◌, ℕ, true, List, length, sum_by}
 use Rattle.gp_machine.specs.declared.entry.Entry.{Entry}
 use Rattle.gp_machine.specs.declared.goroutine.Worker.{Worker}
 use Rattle.gp_machine.specs.declared.settings.Settings.{Settings}
@@ -34,3 +34,24 @@ most_entries settings = settings.entries + 8 * (settings.cells + 2) + 2 * settin
 abbrev pub EntriesAreBounded : Type 0
 EntriesAreBounded = (code : Code) (settings : Settings) (journal : List Entry) → AreInRange settings →
     IsLegal code settings journal → length journal ≤ most_entries settings
+
+-- The clocks of goroutine g aren't above the state's, nor is the number of points that it has passed.
+pub record HasComeTo (state : State) (g : ℕ) : Type 0 where
+  pub count : (goroutine state g).count ≤ state.clock
+  pub blocked : (goroutine state g).blocked ≤ state.clock
+  pub woken : (goroutine state g).woken ≤ state.clock
+
+-- So it is with each goroutine at every step of a legal journal.
+abbrev pub ClocksAreBelow : Type 0
+ClocksAreBelow = (code : Code) (settings : Settings) (journal : List Entry) (k g : ℕ) →
+    IsLegal code settings journal → HasComeTo (at code settings journal k) g
+
+-- The active epoch is the last one where a profile is active, so it is never above it.
+pub record OrdersEpochs (state : State) : Type 0 where
+  pub none_or_last : (state.active ≡ 0) ⊎ (state.active ≡ state.last_epoch)
+  pub in_order : state.active ≤ state.last_epoch
+
+-- That holds at every step of a legal journal.
+abbrev pub EpochsAreOrdered : Type 0
+EpochsAreOrdered = (code : Code) (settings : Settings) (journal : List Entry) (k : ℕ) →
+    IsLegal code settings journal → OrdersEpochs (at code settings journal k)

@@ -1,10 +1,10 @@
 -- Laws on what goroutines do in legal journals: on which worker they run, how they are born, wait and end.
-use Rattle.std.specs.Prelude.{◌≡◌, ◌⊎◌, ◌↔◌, ◌+◌, ◌≤◌, ◌<◌, ℕ, true, false, Some, List, [], ◌∷◌, ◌++◌, take, drop}
+use Rattle.std.specs.Prelude.{◌≡◌, ◌⊎◌, ◌↔◌, ◌+◌, ◌≤◌, ◌<◌, ◌==◌, ℕ, true, false, if◌then◌else◌, Some, List, [], ◌∷◌, ◌++◌, take, drop, count_by}
 use Rattle.gp_machine.specs.declared.entry.Entry.{Entry}
 use Rattle.gp_machine.specs.declared.entry.Entry.TheVariants.{Refuse}
 use Rattle.gp_machine.specs.declared.goroutine.Status.TheVariants.{Runnable, Running, Blocked}
 use Rattle.gp_machine.specs.declared.settings.Settings.{Settings}
-use Rattle.gp_machine.specs.State.{Code, State, goroutine, worker, is_dead, is_live, births}
+use Rattle.gp_machine.specs.State.{Code, State, goroutine, worker, is_runnable, is_dead, is_live, births}
 use Rattle.gp_machine.specs.Due.{IsComplete}
 use Rattle.gp_machine.specs.Effect.{after}
 use Rattle.gp_machine.specs.Run.{IsLegal, last, at}
@@ -35,6 +35,15 @@ StatusesMatchWorkers = (code : Code) (settings : Settings) (journal : List Entry
     IsLegal code settings journal →
     let state = at code settings journal k in
     ((worker state w).runs ≡ Some g) ↔ ((goroutine state g).status ≡ Running w)
+
+-- The queue holds the runnable: each of them stands in it once, and nobody else does.
+abbrev pub HoldsRunnable : State → Type 0
+HoldsRunnable state = (g : ℕ) → count_by (λ other. other == g) state.queue ≡ (if is_runnable (goroutine state g).status then 1 else 0)
+
+-- So it is at every step of a legal journal.
+abbrev pub QueueHoldsRunnable : Type 0
+QueueHoldsRunnable = (code : Code) (settings : Settings) (journal : List Entry) (k : ℕ) →
+    IsLegal code settings journal → HoldsRunnable (at code settings journal k)
 
 -- A goroutine stands in at most one wait list, and only while it is blocked.
 pub record WaitsOnce (state : State) (g : ℕ) : Type 0 where

@@ -1,7 +1,7 @@
 ghost use Rattle.gp_machine.specs.State.{code_of};
 ghost use Rattle.gp_machine.specs.JournalLaw.{EpochsHold, UnrecordedStand, RowsAreFrozen};
-ghost use Rattle.gp_machine.specs.RunLaws.{PrefixesAreLegal, BornInOrder, StatusesMatchWorkers, EachWaitsOnce, WaitListsTellClocks, RefuseLeavesAll, RunsEndOneWay};
-ghost use Rattle.gp_machine.specs.NumberLaws.{EntriesAreCounted, NumbersHold, EntriesAreBounded};
+ghost use Rattle.gp_machine.specs.RunLaws.{PrefixesAreLegal, BornInOrder, StatusesMatchWorkers, QueueHoldsRunnable, EachWaitsOnce, WaitListsTellClocks, RefuseLeavesAll, RunsEndOneWay};
+ghost use Rattle.gp_machine.specs.NumberLaws.{EntriesAreCounted, NumbersHold, EntriesAreBounded, ClocksAreBelow, EpochsAreOrdered};
 ghost use Rattle.gp_machine.specs.Worked.{SmallestProgram, smallest, WokenBetween, wake, RoomForTwo, pair, ContendedMutex, contended, Deadlocks, deadlocked, FaultOfUnlock, faulty, Ticks, six, FullJournal, long};
 
 /// The journal law, of every legal journal of every program: what epochs say at each step, that goroutines which
@@ -13,23 +13,26 @@ pub fn law_journal()
     ensures rows { RowsAreFrozen }
 {}
 
-/// Laws of legal journals: prefixes, births in order, on which worker a goroutine runs, waits and the clocks at which
-/// they began, what a refused profile leaves, and how runs end.
+/// Laws of legal journals: prefixes, births in order, on which worker a goroutine runs, who stands in the queue, waits
+/// and the clocks at which they began, what a refused profile leaves, and how runs end.
 pub fn law_runs()
     ensures prefixes { PrefixesAreLegal }
     ensures births { BornInOrder }
     ensures workers { StatusesMatchWorkers }
+    ensures queue { QueueHoldsRunnable }
     ensures waits { EachWaitsOnce }
     ensures clocks { WaitListsTellClocks }
     ensures refused { RefuseLeavesAll }
     ensures ends { RunsEndOneWay }
 {}
 
-/// Bounds on the numbers of legal journals: entries, clock, slices, births and epochs.
+/// Bounds on the numbers of legal journals: entries, clock, slices, births, epochs and the clocks of goroutines.
 pub fn law_numbers()
     ensures counted { EntriesAreCounted }
     ensures numbers { NumbersHold }
     ensures entries { EntriesAreBounded }
+    ensures come { ClocksAreBelow }
+    ensures ordered { EpochsAreOrdered }
 {}
 
 /// Worked journals of small programs: legal ones, with what the last state tells and the rows frozen at an Open, and

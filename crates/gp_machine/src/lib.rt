@@ -16,16 +16,38 @@
 //! Promised, of every legal journal of every program (`law_journal`): while a profile is active a running goroutine has
 //! its epoch, and one that has still to be recorded stands where it stood at the Open, even where it was woken since;
 //! so the rows taken at the Record entries are, sorted, the rows of all goroutines live at the Open, each once.
-//! `law_runs` and `law_numbers` have the other laws: prefixes, births, who runs on which worker, waits, refusals, ends,
-//! and bounds on entries, clock, slices, births and epochs.
+//! `law_runs` and `law_numbers` have the other laws: prefixes, births, who runs on which worker, who stands in the queue,
+//! waits, refusals, ends, bounds on entries, clock, slices, births and epochs, and the order of clocks and of epochs.
+//!
+//! Runnable goroutines stand in a `Queue`, from which any of them may leave: a ring of links by goroutine number
+//! (`specs/Queue.antt`), so that each call takes constant time, and no memory.
+//!
+//! `IdSet` is a set of goroutines' numbers that tells its least in constant time (`specs/IdSet.antt`).
 #![tactic(auto)]
 
+mod answer;
+mod beginning;
+mod entries;
 mod entry;
 mod goroutine;
+mod goroutines;
+mod id_set;
+mod judgement;
 mod laws;
+mod machine;
+mod operations;
+mod present;
+mod queue;
+mod run;
 mod settings;
 
+pub use answer::{Applied, Foreseen, SharedPoint, Wait, Woken};
 pub use entry::{Counts, Ended, Entry, Journal, Refusals};
 pub use goroutine::{Goroutine, Status, Worker};
 pub use laws::{law_journal, law_numbers, law_runs, law_worked};
+pub use machine::Machine;
+pub use run::Run;
 pub use settings::{Picks, Request, Requests, Settings};
+
+#[cfg(test)]
+mod tests;

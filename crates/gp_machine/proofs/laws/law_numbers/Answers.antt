@@ -1,3 +1,4 @@
+use Rattle.gp_machine.proofs.Stamps.{clocks_are_below, epochs_are_ordered}
 use Rattle.gp_machine.proofs.Totals.{entries_are_counted, numbers_hold, entries_are_bounded}
 use Rattle.gp_machine.proofs.laws.law_numbers.Goals as goal
 
@@ -9,3 +10,9 @@ returns-clause-numbers c = numbers_hold
 
 pub returns-clause-entries : goal.returns-clause-entries
 returns-clause-entries c = entries_are_bounded
+
+pub returns-clause-come : goal.returns-clause-come
+returns-clause-come c = clocks_are_below
+
+pub returns-clause-ordered : goal.returns-clause-ordered
+returns-clause-ordered c = epochs_are_ordered

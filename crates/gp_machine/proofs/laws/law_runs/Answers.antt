@@ -1,5 +1,6 @@
 use Rattle.gp_machine.proofs.Clocks.{wait_lists_tell_clocks}
 use Rattle.gp_machine.proofs.OnWorkers.{statuses_match_workers}
+use Rattle.gp_machine.proofs.QueueLaw.{queue_holds_runnable}
 use Rattle.gp_machine.proofs.Totals.{prefixes_are_legal, born_in_order, each_waits_once, refuse_leaves_all, runs_end_one_way}
 use Rattle.gp_machine.proofs.laws.law_runs.Goals as goal
 
@@ -23,3 +24,6 @@ returns-clause-ends c = runs_end_one_way
 
 pub returns-clause-clocks : goal.returns-clause-clocks
 returns-clause-clocks c = wait_lists_tell_clocks
+
+pub returns-clause-queue : goal.returns-clause-queue
+returns-clause-queue c = queue_holds_runnable

@@ -1,0 +1,94 @@
+-- What the machine keeps in place: the present state, and the numbers of its run that stay.
+use Rattle.std.specs.Prelude.{◌≡◌, ◌+◌, ◌<◌, ◌^◌, ◌==◌, ℕ, min, List, length, get_or, map, count_by, Option, Some}
+use Rattle.gp_isa.specs.declared.parts.Parts.{Parts}
+use Rattle.gp_isa.specs.declared.parts.ChannelDecl.{ChannelDecl}
+use Rattle.gp_isa.specs.Limits.{AreInLimits}
+use Rattle.gp_isa.specs.Trace.{trace}
+use Rattle.gp_stack.specs.Goroutine.{local_ahead}
+use Rattle.gp_stack.specs.Peek.{operation_of, then_at}
+use Rattle.gp_stack.specs.declared.peek.Peek.{Peek}
+use Rattle.gp_sync.specs.declared.effect.Effect.{Effect}
+use Rattle.gp_sync.specs.declared.effect.Effect.TheVariants.{Wakes}
+use Rattle.gp_machine.specs.declared.answer.SharedPoint.{SharedPoint}
+use Rattle.gp_machine.specs.declared.entry.Entry.{Entry}
+use Rattle.gp_machine.specs.declared.entry.Entry.TheVariants.{Op}
+use Rattle.gp_machine.specs.declared.goroutine.Status.TheVariants.{Running, Blocked}
+use Rattle.gp_machine.specs.declared.present.Plan.{Plan}
+use Rattle.gp_machine.specs.declared.settings.Settings.{Settings}
+use Rattle.gp_machine.specs.Settings.{AreInRange, period, quantum}
+use Rattle.gp_machine.specs.State.{Code, State, goroutine, worker, births, trace_of}
+use Rattle.gp_machine.specs.Due.{next_instruction}
+use Rattle.gp_machine.specs.Effect.{labels_at}
+use Rattle.gp_machine.specs.Run.{IsLegal, last}
+
+-- The state of some legal journal.
+pub record IsReached (code : Code) (settings : Settings) (state : State) : Type 0 where
+  pub journal : List Entry
+  pub legal : IsLegal code settings journal
+  pub its_last : state ≡ last code settings journal
+
+-- The numbers that stay are those of a program and its options: the length of each trace, the period of the ticks,
+-- the number of entries at which the journal is full, and the requests.
+pub record FitsPlan (program : Parts) (settings : Settings) (plan : Plan) : Type 0 where
+  pub length_each : (f : ℕ) → get_or plan.lengths.items f 0 ≡ length (trace program f)
+  pub its_period : plan.period ≡ period settings
+  pub its_entries : plan.entries ≡ settings.entries
+  pub its_requests : plan.at.items ≡ settings.at
+
+-- They belong to a program in its limits and options in their ranges, and the channels' capacities are the program's.
+pub record FitsRun (program : Parts) (settings : Settings) (plan : Plan) (capacities : List ℕ) : Type 0 where
+  pub in_range : AreInRange settings
+  pub in_limits : AreInLimits program
+  pub planned : FitsPlan program settings plan
+  pub its_capacities : capacities ≡ map (λ (declared : ChannelDecl). declared.capacity) program.channels
+
+-- each table has a place for each cell
+pub record HasCells (settings : Settings) (goroutines queue waits : ℕ) : Type 0 where
+  pub of_goroutines : goroutines ≡ settings.cells
+  pub of_queue : queue ≡ settings.cells
+  pub of_waits : waits ≡ settings.cells
+
+-- how many places a goroutine has in a queue
+abbrev pub in_queue : ℕ → List ℕ → ℕ
+in_queue g queue = count_by (λ other. other == g) queue
+
+-- worker w runs g
+pub record Runs (settings : Settings) (state : State) (w g : ℕ) : Type 0 where
+  pub is_worker : w < length state.workers
+  pub is_born : g < births state
+  pub is_cell : g < settings.cells
+  pub status : (goroutine state g).status ≡ Running w
+
+-- n instructions more of g on w can be counted
+pub record CanCount (state : State) (w g n : ℕ) : Type 0 where
+  pub clock : state.clock + n < 2 ^ 64
+  pub count : (goroutine state g).count + n < 2 ^ 64
+  pub instructions : (worker state w).instructions + n < 2 ^ 64
+  pub slice : (worker state w).slice + n < 2 ^ 64
+
+-- g waits, and so can be woken
+pub record CanWake (settings : Settings) (state : State) (g : ℕ) : Type 0 where
+  pub is_born : g < births state
+  pub is_cell : g < settings.cells
+  pub blocked : (goroutine state g).status ≡ Blocked
+  pub absent : in_queue g state.queue ≡ 0
+
+-- whom an effect wakes can be woken
+abbrev pub CanMeet : Settings → State → Effect → Type 0
+CanMeet settings state (Wakes h since) = CanWake settings state h
+CanMeet settings state _ = Unit {0}
+
+-- the point that is handed over with an Op is the goroutine's next one
+pub record IsPointOf (code : Code) (state : State) (g : ℕ) (point : SharedPoint) : Type 0 where
+  pub operation : operation_of (next_instruction code state g) ≡ Some point.operation
+  pub labels : point.labels ≡ labels_at code (goroutine state g)
+
+abbrev pub IsGiven : Code → State → Entry → Option SharedPoint → Type 0
+IsGiven code state (Op w g) (Some point) = IsPointOf code state g point
+IsGiven code state (Op w g) _ = ⊥
+IsGiven code state _ _ = Unit {0}
+
+-- a look ahead at the points of g is up to the quantum
+pub record IsPeekAt (code : Code) (state : State) (g : ℕ) (peek : Peek) : Type 0 where
+  pub local : peek.local ≡ min quantum (local_ahead (trace_of code (goroutine state g)) (goroutine state g).count)
+  pub then : peek.then ≡ then_at (trace_of code (goroutine state g)) ((goroutine state g).count + peek.local)

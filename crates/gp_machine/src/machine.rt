@@ -1,0 +1,278 @@
+ghost use Rattle.std.specs.Prelude.{◌≡◌, ◌<◌, ◌≤◌, ◌++◌, ◌∷◌, [], ℕ, true, Some, IfOk, IsSome};
+ghost use Rattle.std.specs.Bool.{OnTrue, OnFalse};
+ghost use Rattle.gp_stack.specs.Peek.{operation_of};
+ghost use Rattle.gp_machine.specs.Settings.{AreInRange};
+ghost use Rattle.gp_machine.specs.State.{code_of, goroutine, worker, is_live, live, running, births};
+ghost use Rattle.gp_machine.specs.Due as definition;
+ghost use Rattle.gp_machine.specs.Due.{IsComplete, next_instruction};
+ghost use Rattle.gp_machine.specs.May.{May, IsDue};
+ghost use Rattle.gp_machine.specs.Run.{IsLegal, last};
+ghost use Rattle.gp_machine.specs.Answer.{applied, foreseen};
+ghost use Rattle.gp_machine.specs.Crowd.{first_behind};
+ghost use Rattle.gp_machine.specs.Queue.{head_of};
+ghost use Rattle.gp_machine.specs.Present.{IsGiven, IsPeekAt};
+ghost use Rattle.gp_machine.specs.declared.entry.Entry.TheVariants as entry;
+ghost use Rattle.gp_machine.specs.Made.{actor_of, made_by};
+ghost use Rattle.gp_machine.specs.NumberLaws.{most_entries};
+
+use crate::answer::{Applied, Foreseen, SharedPoint};
+use crate::entry::{Ended, Entry, Journal};
+use crate::present::Present;
+use crate::run::Run;
+use crate::settings::Settings;
+use gp_isa::{Memory, Program, Sequence};
+use gp_stack::{Operation, Peek};
+use std::alloc::Global;
+use std::marker::Model;
+
+/// A machine that runs the program of a run with its options.
+///
+/// Its value is the journal, which is legal, and what it tells is of the state after all entries. It keeps that state
+/// in place: to make an entry, and each question, takes constant time, however many goroutines there are. All memory
+/// is taken by `new`.
+#[derive(Debug, Drop)]
+pub struct Machine<R: Run> {
+    journal: Vec<Entry>,
+    // by actor: how many entries it made
+    made: Vec<u64>,
+    present: Present<R>,
+}
+
+impl<R: Run> Model for Machine<R> {
+    ghost use Rattle.std.specs.Prelude.{List};
+    ghost use Rattle.std.specs.Vec.{vec_capacity};
+    ghost use Rattle.gp_machine.specs.declared.entry.Entry.{Entry};
+    ghost use Rattle.gp_machine.specs.State.{code_of};
+    ghost use Rattle.gp_machine.specs.Made.{Keeps};
+
+    ghost Value = { List Entry };
+
+    ghost view = { λ m. m.journal.items };
+
+    ghost invariant = { λ m. Keeps (code_of R.program) R.settings (vec_capacity m.journal) m.journal.items m.made.items m.present };
+}
+
+/// The most entries of a journal: those up to which it isn't full, and what may come after, so that every profile
+/// asked for is taken.
+fn most_entries(settings: &Settings) -> usize
+    requires { AreInRange settings.now }
+    ensures { result ≡ most_entries settings.now }
+{
+    let full = settings.entries as usize;
+    let cells = settings.cells as usize;
+    full + 8 * (cells + 2) + 2 * settings.workers as usize + 2
+}
+
+// The number of the actor that makes an entry, the profiler's being the number of workers.
+fn actor_of(profiler: u32, made: Entry) -> u32
+    ensures { result ≡ actor_of profiler made }
+{
+    match made {
+        Entry::Start { w, .. } => w,
+        Entry::Run { w, .. } => w,
+        Entry::Op { w, .. } => w,
+        Entry::Tick { w, .. } => w,
+        Entry::Park { w, .. } => w,
+        Entry::Open { .. } => profiler,
+        Entry::Refuse { .. } => profiler,
+        Entry::Record { actor, .. } => actor,
+        Entry::Close { .. } => profiler,
+    }
+}
+
+impl<R: Run> Machine<R> {
+    /// A machine as its run begins: `main` is born, and no entry was made. It reserves all memory that its run needs.
+    pub fn new(alloc: Global, program: &Program, settings: &Settings) -> Result<Machine<R>, Memory>
+        requires program { program.now ≡ R.program }
+        requires settings { settings.now ≡ R.settings }
+        requires range { AreInRange settings.now }
+        ensures { IfOk result (λ machine. machine ≡ []) }
+    {
+        let actors = settings.workers as usize + 1;
+        Ok(Machine {
+            journal: Vec::with_capacity(alloc, most_entries(settings))?,
+            made: vec![in alloc; 0; actors]?,
+            present: Present::new(alloc, program, settings)?,
+        })
+    }
+
+    /// Makes an entry, which has to be legal. With an `Op` comes its goroutine's next point. The answer tells what the
+    /// entry did.
+    pub fn apply(&mut self, made: Entry, point: Option<SharedPoint>) -> Applied
+        requires legal { May (code_of R.program) R.settings (last (code_of R.program) R.settings self.old) made }
+        requires point { IsGiven (code_of R.program) (last (code_of R.program) R.settings self.old) made point }
+        ensures journal { self.new ≡ self.old ++ made ∷ [] }
+        ensures answer { result ≡ applied (code_of R.program) R.settings (last (code_of R.program) R.settings self.old) made }
+    {
+        let profiler = self.made.len() as u32 - 1;
+        let answer = self.present.apply(made, point);
+        self.made[actor_of(profiler, made) as usize] += 1;
+        match self.journal.push(made) {
+            Ok(()) => {}
+            Err(_) => unreachable!(),
+        }
+        answer
+    }
+
+    /// The entry that is due on worker `w`, which runs a goroutine. `peek` is the look ahead of its body, up to 1,000
+    /// points.
+    pub fn due(&self, w: u32, peek: Peek) -> Entry
+        requires runs { IsSome (worker (last (code_of R.program) R.settings self.now) w).runs }
+        requires peek { (g : ℕ) → (worker (last (code_of R.program) R.settings self.now) w).runs ≡ Some g → IsPeekAt (code_of R.program) (last (code_of R.program) R.settings self.now) g peek }
+        ensures { (g : ℕ) → (worker (last (code_of R.program) R.settings self.now) w).runs ≡ Some g → result ≡ definition.due (code_of R.program) R.settings (last (code_of R.program) R.settings self.now) w g }
+    {
+        match self.present.worker(w).runs {
+            Some(g) => self.present.due(w, g, peek),
+            None => unreachable!(),
+        }
+    }
+
+    /// What the Op that is due on worker `w` will tell, before it is made. `operation` is what its goroutine's next
+    /// point does.
+    pub fn foresee(&self, w: u32, operation: Operation) -> Foreseen
+        requires runs { IsSome (worker (last (code_of R.program) R.settings self.now) w).runs }
+        requires due { (g : ℕ) → (worker (last (code_of R.program) R.settings self.now) w).runs ≡ Some g → IsDue (code_of R.program) R.settings (last (code_of R.program) R.settings self.now) w g (entry.Op w g) }
+        requires operation { (g : ℕ) → (worker (last (code_of R.program) R.settings self.now) w).runs ≡ Some g → operation_of (next_instruction (code_of R.program) (last (code_of R.program) R.settings self.now) g) ≡ Some operation }
+        ensures { (g : ℕ) → (worker (last (code_of R.program) R.settings self.now) w).runs ≡ Some g → result ≡ foreseen (code_of R.program) (last (code_of R.program) R.settings self.now) g }
+    {
+        match self.present.worker(w).runs {
+            Some(g) => self.present.foresees(g, operation),
+            None => unreachable!(),
+        }
+    }
+
+    /// The runnable goroutine that has waited longest, if there is one.
+    pub fn head(&self) -> Option<u32>
+        ensures { result ≡ head_of (last (code_of R.program) R.settings self.now).queue }
+    {
+        self.present.head()
+    }
+
+    /// Whether a profile is asked for.
+    pub fn asked(&self) -> bool
+        ensures { result ≡ definition.asked R.settings (last (code_of R.program) R.settings self.now) }
+    {
+        self.present.asked()
+    }
+
+    /// Whether the run is over.
+    pub fn over(&self) -> bool
+        ensures { result ≡ definition.over R.settings (last (code_of R.program) R.settings self.now) }
+    {
+        self.present.over()
+    }
+
+    /// Whether the run is complete.
+    pub fn complete(&self) -> bool
+        ensures complete { OnTrue result (IsComplete R.settings (last (code_of R.program) R.settings self.now)) }
+        ensures more { OnFalse result (IsComplete R.settings (last (code_of R.program) R.settings self.now) → ⊥) }
+    {
+        self.present.complete()
+    }
+
+    /// How many goroutines run.
+    pub fn running(&self) -> u32
+        ensures { result ≡ running (last (code_of R.program) R.settings self.now) }
+    {
+        self.present.running()
+    }
+
+    /// How many goroutines are live.
+    pub fn live(&self) -> u32
+        ensures { result ≡ live (last (code_of R.program) R.settings self.now) }
+    {
+        self.present.live()
+    }
+
+    /// How the run ended, which is complete.
+    pub fn ended(&self) -> Ended
+        requires { IsComplete R.settings (last (code_of R.program) R.settings self.now) }
+        ensures { result ≡ definition.ended (last (code_of R.program) R.settings self.now) }
+    {
+        self.present.ended()
+    }
+
+    /// The entries so far, in their order.
+    pub fn journal(&self) -> &[Entry]
+        ensures journal { result.now ≡ self.now }
+        ensures legal { IsLegal (code_of R.program) R.settings self.now }
+    {
+        self.journal.as_slice()
+    }
+
+    /// The entries, in their order. It takes no memory.
+    pub fn into_journal(self) -> Journal
+        ensures journal { result ≡ self }
+        ensures legal { IsLegal (code_of R.program) R.settings self }
+    {
+        let Machine { journal, .. } = self;
+        Sequence::from_vec(journal)
+    }
+
+    /// The clock, in instructions.
+    pub fn clock(&self) -> u64
+        ensures { result ≡ (last (code_of R.program) R.settings self.now).clock }
+    {
+        self.present.clock()
+    }
+
+    /// How many goroutines were born.
+    pub fn births(&self) -> u32
+        ensures { result ≡ births (last (code_of R.program) R.settings self.now) }
+    {
+        self.present.births()
+    }
+
+    /// The epoch of the active profile, or 0.
+    pub fn active(&self) -> u32
+        ensures { result ≡ (last (code_of R.program) R.settings self.now).active }
+    {
+        self.present.active()
+    }
+
+    /// The last epoch given.
+    pub fn last_epoch(&self) -> u32
+        ensures { result ≡ (last (code_of R.program) R.settings self.now).last_epoch }
+    {
+        self.present.last_epoch()
+    }
+
+    /// The epoch of a live goroutine: the last profile in which it was recorded or born.
+    pub fn epoch(&self, g: u32) -> u32
+        requires { is_live (goroutine (last (code_of R.program) R.settings self.now) g) ≡ true }
+        ensures { result ≡ (goroutine (last (code_of R.program) R.settings self.now) g).epoch }
+    {
+        self.present.goroutine(g).epoch
+    }
+
+    /// The goroutine that worker `w` runs, if any.
+    pub fn runs(&self, w: u32) -> Option<u32>
+        requires { w < R.settings.workers }
+        ensures { result ≡ (worker (last (code_of R.program) R.settings self.now) w).runs }
+    {
+        self.present.worker(w).runs
+    }
+
+    /// The first goroutine that has still to be recorded in the active profile.
+    pub fn unrecorded(&self) -> Option<u32>
+        ensures { result ≡ first_behind (last (code_of R.program) R.settings self.now).active (last (code_of R.program) R.settings self.now).goroutines }
+    {
+        self.present.unrecorded()
+    }
+
+    /// How many instructions worker `w` has run.
+    pub fn done(&self, w: u32) -> u64
+        requires { w < R.settings.workers }
+        ensures { result ≡ (worker (last (code_of R.program) R.settings self.now) w).instructions }
+    {
+        self.present.worker(w).instructions
+    }
+
+    /// How many entries an actor made: a worker, or the profiler, whose number is that of the workers.
+    pub fn made(&self, actor: u32) -> u64
+        requires { actor ≤ R.settings.workers }
+        ensures { result ≡ made_by R.settings actor self.now }
+    {
+        self.made[actor as usize]
+    }
+}
