@@ -19,10 +19,12 @@
 //! `law_runs` and `law_numbers` have the other laws: prefixes, births, who runs on which worker, who stands in the queue,
 //! waits, refusals, ends, bounds on entries, clock, slices, births and epochs, and the order of clocks and of epochs.
 //!
-//! Runnable goroutines stand in a `Queue`, from which any of them may leave: a ring of links by goroutine number
-//! (`specs/Queue.antt`), so that each call takes constant time, and no memory.
-//!
-//! `IdSet` is a set of goroutines' numbers that tells its least in constant time (`specs/IdSet.antt`).
+//! `Machine` runs by these definitions. Its value is the journal, and beside it it keeps the present state in place
+//! (`Present`): the goroutines with their counts (`Goroutines`), the queue of the runnable (`Queue`), the wait lists of
+//! `gp_sync`, the workers, the clock and the requests. `apply` makes one legal entry, and what it answers is in
+//! `specs/Answer.antt`; `specs/Present.antt` and `specs/Made.antt` say what is kept. Each call takes constant time,
+//! however many goroutines there are: from the queue, a ring of links by number, any goroutine may leave, and who has
+//! still to be recorded stands in a bitmap that tells its least number (`IdSet`). Only `Machine::new` takes memory.
 #![tactic(auto)]
 
 mod answer;
