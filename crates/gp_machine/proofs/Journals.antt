@@ -14,10 +14,10 @@ use Rattle.gp_machine.specs.Worked.{Worked, EndsThere, smallest, SmallestProgram
 use Rattle.gp_machine.proofs.Allows.{allows_all, legal_from, not_legal}
 
 -- the code of a program, where the traces of its functions are these
-abbrev with_traces : Parts → List (List Point) → Code
+abbrev pub with_traces : Parts → List (List Point) → Code
 with_traces program traces = record (code_of program) { points = λ f. get_or traces f [] }
 
-code_is : (program : Parts) (traces : List (List Point)) → ((f : ℕ) → trace program f ≡ get_or traces f []) → code_of program ≡ with_traces program traces
+pub code_is : (program : Parts) (traces : List (List Point)) → ((f : ℕ) → trace program f ≡ get_or traces f []) → code_of program ≡ with_traces program traces
 code_is program traces same = λ i. record (code_of program) { points = λ f. same f i }
 
 -- A journal of a program with computed numbers.
@@ -30,10 +30,10 @@ fails : (code : Code) (settings : Settings) (journal : List Entry) (entry : Entr
 fails code settings journal entry legal not =
     record { legal = legal_from code settings (first code settings) journal legal; refused = not_legal code settings (first code settings) (journal ++ entry ∷ []) not }
 
-smallest_traces : List (List Point)
+unfoldable pub smallest_traces : List (List Point)
 smallest_traces = (point_at 0 2 Local ∷ []) ∷ []
 
-smallest_same : (f : ℕ) → trace smallest f ≡ get_or smallest_traces f []
+pub smallest_same : (f : ℕ) → trace smallest f ≡ get_or smallest_traces f []
 unfolding smallest_traces trace trace_within
 smallest_same zero = rw action-work refl
 smallest_same (suc f) = refl
@@ -53,12 +53,12 @@ smallest_computed =
 pub smallest_program : SmallestProgram (code_of smallest)
 smallest_program = subst SmallestProgram (sym (code_is smallest smallest_traces smallest_same)) smallest_computed
 
-wake_traces : List (List Point)
+unfoldable pub wake_traces : List (List Point)
 wake_traces =
     (point_at 0 3 (Spawn 1) ∷ (replicate 1000 (point_at 0 4 Local) ++ (point_at 0 5 (Send 0) ∷ replicate 5 (point_at 0 6 Local))))
     ∷ (point_at 1 9 (Recv 0) ∷ replicate 7 (point_at 1 10 Local)) ∷ []
 
-wake_same : (f : ℕ) → trace wake f ≡ get_or wake_traces f []
+pub wake_same : (f : ℕ) → trace wake f ≡ get_or wake_traces f []
 unfolding wake_traces trace trace_within
 wake_same zero = rw (action-spawn, action-send, action-work 5, action-work 1000) refl
 wake_same (suc zero) = rw (action-recv, action-work) refl
@@ -78,10 +78,10 @@ wake_computed =
 pub woken_between : WokenBetween (code_of wake)
 woken_between = subst WokenBetween (sym (code_is wake wake_traces wake_same)) wake_computed
 
-pair_traces : List (List Point)
+unfoldable pub pair_traces : List (List Point)
 pair_traces = (point_at 0 2 (Spawn 1) ∷ replicate 5 (point_at 0 3 Local)) ∷ replicate 2 (point_at 1 6 Local) ∷ []
 
-pair_same : (f : ℕ) → trace pair f ≡ get_or pair_traces f []
+pub pair_same : (f : ℕ) → trace pair f ≡ get_or pair_traces f []
 unfolding pair_traces trace trace_within
 pair_same zero = rw (action-spawn, action-work) refl
 pair_same (suc zero) = rw action-work refl
@@ -105,12 +105,12 @@ pair_computed =
 pub room_for_two : RoomForTwo (code_of pair)
 room_for_two = subst RoomForTwo (sym (code_is pair pair_traces pair_same)) pair_computed
 
-contended_traces : List (List Point)
+unfoldable pub contended_traces : List (List Point)
 contended_traces =
     (point_at 0 4 (Spawn 1) ∷ point_at 0 5 (Spawn 1) ∷ point_at 0 6 (Lock 0) ∷ (replicate 1002 (point_at 0 7 Local) ++ (point_at 0 8 (Unlock 0) ∷ point_at 0 9 (Recv 0) ∷ point_at 0 10 (Recv 0) ∷ [])))
     ∷ (point_at 1 13 (Lock 0) ∷ point_at 1 14 (Unlock 0) ∷ point_at 1 15 (Send 0) ∷ []) ∷ []
 
-contended_same : (f : ℕ) → trace contended f ≡ get_or contended_traces f []
+pub contended_same : (f : ℕ) → trace contended f ≡ get_or contended_traces f []
 unfolding contended_traces trace trace_within
 contended_same zero = rw (action-spawn, action-lock, action-unlock, action-recv, action-work) refl
 contended_same (suc zero) = rw (action-lock, action-unlock, action-send) refl
@@ -124,10 +124,10 @@ contended_computed =
 pub contended_mutex : ContendedMutex (code_of contended)
 contended_mutex = subst ContendedMutex (sym (code_is contended contended_traces contended_same)) contended_computed
 
-deadlock_traces : List (List Point)
+unfoldable pub deadlock_traces : List (List Point)
 deadlock_traces = (point_at 0 3 (Spawn 1) ∷ point_at 0 4 (Recv 0) ∷ []) ∷ (point_at 1 7 (Recv 0) ∷ []) ∷ []
 
-deadlock_same : (f : ℕ) → trace deadlocked f ≡ get_or deadlock_traces f []
+pub deadlock_same : (f : ℕ) → trace deadlocked f ≡ get_or deadlock_traces f []
 unfolding deadlock_traces trace trace_within
 deadlock_same zero = rw (action-spawn, action-recv) refl
 deadlock_same (suc zero) = rw action-recv refl
@@ -147,10 +147,10 @@ deadlock_computed =
 pub deadlocks : Deadlocks (code_of deadlocked)
 deadlocks = subst Deadlocks (sym (code_is deadlocked deadlock_traces deadlock_same)) deadlock_computed
 
-faulty_traces : List (List Point)
+unfoldable pub faulty_traces : List (List Point)
 faulty_traces = (replicate 3 (point_at 0 3 Local) ++ (point_at 0 4 (Unlock 0) ∷ [])) ∷ []
 
-faulty_same : (f : ℕ) → trace faulty f ≡ get_or faulty_traces f []
+pub faulty_same : (f : ℕ) → trace faulty f ≡ get_or faulty_traces f []
 unfolding faulty_traces trace trace_within
 faulty_same zero = rw (action-work, action-unlock) refl
 faulty_same (suc f) = refl
@@ -163,10 +163,10 @@ faulty_computed =
 pub fault_of_unlock : FaultOfUnlock (code_of faulty)
 fault_of_unlock = subst FaultOfUnlock (sym (code_is faulty faulty_traces faulty_same)) faulty_computed
 
-six_traces : List (List Point)
+unfoldable pub six_traces : List (List Point)
 six_traces = replicate 6 (point_at 0 2 Local) ∷ []
 
-six_same : (f : ℕ) → trace six f ≡ get_or six_traces f []
+pub six_same : (f : ℕ) → trace six f ≡ get_or six_traces f []
 unfolding six_traces trace trace_within
 six_same zero = rw action-work refl
 six_same (suc f) = refl
@@ -178,10 +178,10 @@ six_computed = let code = with_traces six six_traces in record { journal = works
 pub ticks : Ticks (code_of six)
 ticks = subst Ticks (sym (code_is six six_traces six_same)) six_computed
 
-long_traces : List (List Point)
+unfoldable pub long_traces : List (List Point)
 long_traces = replicate 20000 (point_at 0 2 Local) ∷ []
 
-long_same : (f : ℕ) → trace long f ≡ get_or long_traces f []
+pub long_same : (f : ℕ) → trace long f ≡ get_or long_traces f []
 unfolding long_traces trace trace_within
 long_same zero = rw action-work refl
 long_same (suc f) = refl

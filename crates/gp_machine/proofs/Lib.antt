@@ -30,3 +30,5 @@ pub mod Marked
 pub mod Kept
 pub mod Judged
 pub mod Peeked
+pub mod Replays
+pub mod Handed

@@ -17,3 +17,4 @@ pub mod Queue
 pub mod Crowd
 pub mod Present
 pub mod Made
+pub mod Replayed

@@ -18,19 +18,19 @@ use Rattle.gp_machine.specs.Due.{ended}
 use Rattle.gp_machine.specs.Run.{IsLegal, last, at}
 use Rattle.gp_machine.specs.Frozen.{frozen, rows_taken}
 
-abbrev statement : ℕ → What → Stmt
+abbrev pub statement : ℕ → What → Stmt
 statement line what = roll-Stmt (record { line = line; what = what })
 
-abbrev main_function : ℕ → ℕ → List Stmt → Function
+abbrev pub main_function : ℕ → ℕ → List Stmt → Function
 main_function line end body = record { name = codes "main"; line = line; end = end; body = body }
 
-abbrev other_function : ℕ → ℕ → List Stmt → Function
+abbrev pub other_function : ℕ → ℕ → List Stmt → Function
 other_function line end body = record { name = codes "f"; line = line; end = end; body = body }
 
-abbrev program_of : List Function → Parts
+abbrev pub program_of : List Function → Parts
 program_of functions = record { functions = functions; channels = []; mutexes = []; labels = [] }
 
-abbrev with_channels : List ChannelDecl → List Function → Parts
+abbrev pub with_channels : List ChannelDecl → List Function → Parts
 with_channels channels functions = record { functions = functions; channels = channels; mutexes = []; labels = [] }
 
 -- one worker, the usual options, and requests

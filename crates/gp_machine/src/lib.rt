@@ -52,4 +52,6 @@ pub use run::Run;
 pub use settings::{Picks, Request, Requests, Settings};
 
 #[cfg(test)]
+mod replayed;
+#[cfg(test)]
 mod tests;

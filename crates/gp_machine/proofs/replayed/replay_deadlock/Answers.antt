@@ -1,0 +1,18 @@
+use Rattle.std.proofs.Common.{[], ◌∷◌, sym, subst}
+use Rattle.gp_machine.specs.declared.settings.Request.TheVariants.{End}
+use Rattle.gp_machine.specs.State.{code_of}
+use Rattle.gp_machine.specs.Run.{IsLegal}
+use Rattle.gp_machine.specs.Replayed.{ArePointsOf}
+use Rattle.gp_machine.specs.Worked.{deadlocked, plain}
+use Rattle.gp_machine.proofs.Journals.{deadlocks}
+use Rattle.gp_machine.proofs.Handed.{end_range}
+use Rattle.gp_machine.proofs.replayed.replay_deadlock.Goals as goal
+
+pub run-requires-clause-range : goal.run-requires-clause-range
+run-requires-clause-range g c = end_range
+
+pub run-requires-clause-legal : goal.run-requires-clause-legal
+run-requires-clause-legal g c = subst (λ made. IsLegal (code_of deadlocked) (plain (End ∷ [])) made) (sym c.deadlock_journal.ensures) deadlocks.journal.legal
+
+pub run-requires-clause-points : goal.run-requires-clause-points
+run-requires-clause-points g c = subst (λ made. ArePointsOf deadlocked (plain (End ∷ [])) made c.deadlock_points.result) (sym c.deadlock_journal.ensures) c.deadlock_points.ensures

@@ -1,0 +1,7 @@
+use Rattle.std.proofs.Common.{[], ◌∷◌}
+use Rattle.gp_machine.specs.declared.settings.Request.TheVariants.{End}
+use Rattle.gp_machine.specs.Worked.{deadlocked, plain}
+use Rattle.gp_machine.proofs.replayed.replay_deadlock.Given as goal
+
+abbrev pub ghosts-run : goal.ghosts-run
+ghosts-run g a = record { program = deadlocked; settings = plain (End ∷ []) }
