@@ -1,0 +1,8 @@
+use Rattle.std.proofs.Common.{arith}
+use Rattle.gp_sim.proofs.Standing.{moved, as_many}
+use Rattle.gp_sim.proofs.bodies.Bodies.advance.Goals as goal
+
+pub returns : goal.returns
+returns g c =
+    let many = as_many c.self.inside.bodies.items c.args.self.now c.self.view_is in
+    moved c.self.inside.bodies.items c.args.self.now c.args.g c.args.n c.index_mut.result.now c.advance.new.self c.self.view_is (let within = c.requires.born in omega (arith, many)) c.index_mut.ensures.value c.advance.ensures.progress

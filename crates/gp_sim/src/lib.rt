@@ -1,0 +1,30 @@
+//! Runs in a stated order: which actor acts in each turn is chosen by numbers.
+//!
+//! In each turn the workers, in their order, and then the profiler are asked what they would do. A worker that runs a
+//! goroutine makes its due entry; an idle one goes on with the head of the queue, and records it first where it has still
+//! to be recorded. The profiler records the first goroutine that has still to be recorded, closes its profile, or opens
+//! or refuses the one that is asked for. Where one actor alone can act it does; where several can, the next number modulo
+//! how many there are is the place of the one that acts. The numbers are those of the option `picks`, and then the words
+//! of the generator PCG32 at the option's seed, on stream 1. Where nobody can act the run is complete.
+//!
+//! So the journal is a function of program and options (`specs/Choice.antt`, `sim_journal`), and `simulate` gives just
+//! that journal, with the records of each profile (`specs/Profiles.antt`): the rows that the Record entries took, in their
+//! order, which sorted are the frozen rows at the profile's Open. `law_choice`: what may be chosen is legal, and the
+//! journal that the choice gives is finished. `law_records`: how records grow, and that they are frozen.
+//!
+//! `simulate` keeps beside the machine a body for each goroutine that was born (`Bodies`), which stands where its
+//! goroutine stands (`specs/Bodies.antt`), and copies a stack only as its Record entry is made. A turn takes time that
+//! grows with the number of workers, and not with that of goroutines; a Record takes time by the frames that it copies.
+#![tactic(auto)]
+
+mod bodies;
+mod full_run;
+mod laws;
+mod making;
+mod numbers;
+mod record_laws;
+mod simulation;
+
+pub use full_run::{Simulated, simulate};
+pub use laws::law_choice;
+pub use record_laws::law_records;
