@@ -28,3 +28,6 @@ mod simulation;
 pub use full_run::{Simulated, simulate};
 pub use laws::law_choice;
 pub use record_laws::law_records;
+
+#[cfg(test)]
+mod tests;
