@@ -9,3 +9,5 @@ pub mod Complete
 pub mod Turns
 pub mod Following
 pub mod Stepping
+pub mod Framed
+pub mod Named

@@ -5,3 +5,4 @@ pub mod Profiles
 pub mod Bodies
 pub mod Simulation
 pub mod ProfilesLaw
+pub mod Named

@@ -10,7 +10,8 @@
 //! So the journal is a function of program and options (`specs/Choice.antt`, `sim_journal`), and `simulate` gives just
 //! that journal, with the records of each profile (`specs/Profiles.antt`): the rows that the Record entries took, in their
 //! order, which sorted are the frozen rows at the profile's Open. `law_choice`: what may be chosen is legal, and the
-//! journal that the choice gives is finished. `law_records`: how records grow, and that they are frozen.
+//! journal that the choice gives is finished. `law_records`: how records grow, that they are frozen, and
+//! that the functions of their frames and their label sets are there in the program (`specs/Named.antt`).
 //!
 //! `simulate` keeps beside the machine a body for each goroutine that was born (`Bodies`), which stands where its
 //! goroutine stands (`specs/Bodies.antt`), and copies a stack only as its Record entry is made. A turn takes time that

@@ -1,3 +1,4 @@
+use Rattle.gp_sim.proofs.Named.{records_are_there}
 use Rattle.gp_sim.proofs.Recorded.{records_grow, records_are_counted, records_are_frozen}
 use Rattle.gp_sim.proofs.record_laws.law_records.Goals as goal
 
@@ -9,3 +10,6 @@ returns-clause-counted c = records_are_counted
 
 pub returns-clause-frozen : goal.returns-clause-frozen
 returns-clause-frozen c = records_are_frozen
+
+pub returns-clause-there : goal.returns-clause-there
+returns-clause-there c = records_are_there
