@@ -11,9 +11,9 @@ use Rattle.gp_machine.specs.Settings.{AreInRange, IsInstant}
 use Rattle.gp_machine.specs.Due.{over, asked, due, extent}
 use Rattle.gp_machine.specs.Effect.{meets, operates, after}
 use Rattle.gp_machine.specs.Replayed.{ArePointsOf}
-use Rattle.gp_machine.specs.Worked.{plain, smallest, smallest_settings, smallest_journal, wake, wake_settings, wake_journal, contended, contended_journal, deadlocked, deadlock_journal, faulty, fault_journal, six, ticking, tick_journal, pair, pair_settings, refused_journal, two_workers, side_by_side}
-use Rattle.gp_machine.proofs.Journals.{smallest_traces, smallest_same, wake_traces, wake_same, contended_traces, contended_same, deadlock_traces, deadlock_same, faulty_traces, faulty_same, six_traces, six_same, pair_traces, pair_same}
-use Rattle.gp_machine.proofs.Replays.{handed, usual_range}
+use Rattle.gp_machine.specs.Worked.{plain, smallest, smallest_settings, smallest_journal, wake, wake_settings, wake_journal, contended, contended_journal, deadlocked, deadlock_journal, one_cell, one_cell_journal, faulty, fault_journal, six, ticking, tick_journal, pair, pair_settings, refused_journal, profiled_journal, two_workers, side_by_side, long, full_settings, full_journal}
+use Rattle.gp_machine.proofs.Journals.{smallest_traces, smallest_same, wake_traces, wake_same, contended_traces, contended_same, deadlock_traces, deadlock_same, faulty_traces, faulty_same, six_traces, six_same, pair_traces, pair_same, long_traces, long_same}
+use Rattle.gp_machine.proofs.Replays.{handed, usual_range, with_limits}
 
 -- a shared point of a goroutine with the empty label set
 abbrev point : Operation → Option SharedPoint
@@ -47,6 +47,13 @@ pub deadlock_handed : ArePointsOf deadlocked (plain (End ∷ [])) deadlock_journ
 unfolding deadlock_traces next_point is_ended stack_of labels_of local_ahead over asked due extent meets operates after
 deadlock_handed = handed deadlocked deadlock_traces deadlock_same (plain (End ∷ [])) deadlock_journal deadlock_points refl
 
+abbrev pub one_cell_points : List (Option SharedPoint)
+one_cell_points = None ∷ point (Spawn 1) ∷ []
+
+pub one_cell_handed : ArePointsOf deadlocked one_cell one_cell_journal one_cell_points
+unfolding deadlock_traces next_point is_ended stack_of labels_of local_ahead over asked due extent meets operates after
+one_cell_handed = handed deadlocked deadlock_traces deadlock_same one_cell one_cell_journal one_cell_points refl
+
 abbrev pub fault_points : List (Option SharedPoint)
 fault_points = None ∷ None ∷ point (Unlock 0) ∷ None ∷ None ∷ None ∷ []
 
@@ -68,12 +75,26 @@ pub refused_handed : ArePointsOf pair (pair_settings 1) refused_journal refused_
 unfolding pair_traces next_point is_ended stack_of labels_of local_ahead over asked due extent meets operates after
 refused_handed = handed pair pair_traces pair_same (pair_settings 1) refused_journal refused_points refl
 
+abbrev pub profiled_points : List (Option SharedPoint)
+profiled_points = None ∷ point (Spawn 1) ∷ None ∷ None ∷ None ∷ None ∷ None ∷ None ∷ None ∷ None ∷ None ∷ []
+
+pub profiled_handed : ArePointsOf pair (pair_settings 2) profiled_journal profiled_points
+unfolding pair_traces next_point is_ended stack_of labels_of local_ahead over asked due extent meets operates after
+profiled_handed = handed pair pair_traces pair_same (pair_settings 2) profiled_journal profiled_points refl
+
 abbrev pub parallel_points : List (Option SharedPoint)
 parallel_points = None ∷ point (Spawn 1) ∷ None ∷ None ∷ None ∷ None ∷ None ∷ None ∷ None ∷ None ∷ None ∷ []
 
 pub parallel_handed : ArePointsOf pair two_workers side_by_side parallel_points
 unfolding pair_traces next_point is_ended stack_of labels_of local_ahead over asked due extent meets operates after
 parallel_handed = handed pair pair_traces pair_same two_workers side_by_side parallel_points refl
+
+abbrev pub full_points : List (Option SharedPoint)
+full_points = None ∷ None ∷ None ∷ None ∷ None ∷ None ∷ None ∷ None ∷ None ∷ None ∷ None ∷ None ∷ None ∷ None ∷ None ∷ None ∷ None ∷ None ∷ None ∷ None ∷ []
+
+pub full_handed : ArePointsOf long full_settings full_journal full_points
+unfolding long_traces next_point is_ended stack_of labels_of local_ahead over asked due extent meets operates after
+full_handed = handed long long_traces long_same full_settings full_journal full_points refl
 
 -- The options of the worked journals lie in their ranges.
 one_instant : (request : Request) → IsInstant request → All IsInstant (request ∷ [])
@@ -92,6 +113,9 @@ wake_range = clock_range 1 1024 1001 (omega arith) (omega arith) (omega arith) (
 pub refused_range : AreInRange (pair_settings 1)
 refused_range = clock_range 1 1 1 (omega arith) (omega arith) (omega arith) (omega arith)
 
+pub profiled_range : AreInRange (pair_settings 2)
+profiled_range = clock_range 1 2 1 (omega arith) (omega arith) (omega arith) (omega arith)
+
 pub parallel_range : AreInRange two_workers
 parallel_range = clock_range 2 1024 1 (omega arith) (omega arith) (omega arith) (omega arith)
 
@@ -103,3 +127,9 @@ contended_range = usual_range 1 1024 100 [] (omega arith) (omega arith) (omega a
 
 pub tick_range : AreInRange ticking
 tick_range = usual_range 1 1024 1000000 [] (omega arith) (omega arith) (omega arith) (omega arith) refl (omega arith) (All-nil IsInstant)
+
+pub one_cell_range : AreInRange one_cell
+one_cell_range = with_limits 1 262144 [] contended_range (omega arith) (omega arith) (omega arith) (omega arith)
+
+pub full_range : AreInRange full_settings
+full_range = with_limits 1024 16 (End ∷ []) end_range (omega arith) (omega arith) (omega arith) (omega arith)

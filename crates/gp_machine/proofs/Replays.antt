@@ -136,3 +136,29 @@ usual_range workers room hz requests a b c d e f instants = record {
   picks = omega arith;
   each_pick = search rules;
 }
+
+-- the same with other numbers of cells and of entries
+pub with_limits : (cells entries : ℕ) (requests : List Request) → AreInRange (plain requests) → 1 ≤ cells → cells ≤ 16384 → 16 ≤ entries → entries ≤ 4194304 →
+    AreInRange (record (plain requests) { cells = cells; entries = entries })
+with_limits cells entries requests range a b c d = record {
+  some_worker = range.some_worker;
+  workers = range.workers;
+  few_requests = range.few_requests;
+  instants = range.instants;
+  room = range.room;
+  some_hz = range.some_hz;
+  hz = range.hz;
+  block = range.block;
+  mutex = range.mutex;
+  seed = range.seed;
+  some_cell = a;
+  cells = b;
+  some_entries = c;
+  entries = d;
+  some_ring = range.some_ring;
+  ring = range.ring;
+  some_tag = range.some_tag;
+  tags = range.tags;
+  picks = range.picks;
+  each_pick = range.each_pick;
+}

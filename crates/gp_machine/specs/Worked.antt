@@ -180,13 +180,16 @@ deadlock_journal = Start 0 0 ∷ Op 0 0 ∷ Op 0 0 ∷ Start 0 1 ∷ Op 0 1 ∷ 
 abbrev pub one_cell : Settings
 one_cell = record (plain []) { cells = 1 }
 
+abbrev pub one_cell_journal : List Entry
+one_cell_journal = Start 0 0 ∷ Op 0 0 ∷ []
+
 pub record Deadlocks (code : Code) : Type 0 where
   pub journal : Worked code (plain (End ∷ [])) deadlock_journal 1 2 2 1
   pub by_deadlock : ended (last code (plain (End ∷ [])) deadlock_journal) ≡ Deadlock
   pub rows : frozen_at code (plain (End ∷ [])) deadlock_journal 5 ≡ shown 0 0 4 ∷ shown 1 1 7 ∷ []
   -- with one cell the same program makes a fault
-  pub no_cell : Worked code one_cell (Start 0 0 ∷ Op 0 0 ∷ []) 0 1 1 0
-  pub by_fault : ended (last code one_cell (Start 0 0 ∷ Op 0 0 ∷ [])) ≡ Fault 2
+  pub no_cell : Worked code one_cell one_cell_journal 0 1 1 0
+  pub by_fault : ended (last code one_cell one_cell_journal) ≡ Fault 2
 
 -- mutex m; func main { work 3, unlock m }
 abbrev pub faulty : Parts

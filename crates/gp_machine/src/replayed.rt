@@ -360,6 +360,39 @@ fn a_deadlock_is_profiled_at_the_end(rt: HostRuntime) -> Result<(), Fail> {
     Ok(())
 }
 
+fn replay_one_cell<A: Abort>(rt: &A, alloc: Global, expected: &Expected<'_>) -> Result<(), Memory> {
+    let parts = deadlocked(alloc)?;
+    let program = checked(rt, alloc, parts)?;
+    let settings = one_cell(alloc)?;
+    run::<Brand, A>(
+        rt,
+        alloc,
+        &program,
+        &settings,
+        &one_cell_journal(),
+        &one_cell_points(),
+        expected,
+    )
+}
+
+#[test]
+fn a_birth_without_a_cell_ends_the_run(rt: HostRuntime) -> Result<(), Fail> {
+    let told = [
+        (PLAIN, 0, [1, 1, 1], [0, 0]),
+        (Applied::Fault { cause: 2 }, 0, [1, 1, 0], [0, 0]),
+    ];
+    let expected = Expected {
+        told: &told,
+        ended: Some(Ended::Fault { cause: 2 }),
+        done: &[0],
+        made: &[2, 0],
+    };
+    replay_one_cell(&rt, rt.alloc(), &expected)
+        .ok()
+        .ok_or("memory")?;
+    Ok(())
+}
+
 fn replay_fault<A: Abort>(rt: &A, alloc: Global, expected: &Expected<'_>) -> Result<(), Memory> {
     let parts = faulty(alloc)?;
     let program = checked(rt, alloc, parts)?;
@@ -443,7 +476,7 @@ fn a_tick_comes_after_each_instruction_but_the_last(rt: HostRuntime) -> Result<(
 fn replay_refused<A: Abort>(rt: &A, alloc: Global, expected: &Expected<'_>) -> Result<(), Memory> {
     let parts = pair(alloc)?;
     let program = checked(rt, alloc, parts)?;
-    let settings = room_for_one(alloc)?;
+    let settings = pair_settings(alloc, 1)?;
     run::<Brand, A>(
         rt,
         alloc,
@@ -474,6 +507,48 @@ fn a_profile_without_room_is_refused(rt: HostRuntime) -> Result<(), Fail> {
         made: &[7, 1],
     };
     replay_refused(&rt, rt.alloc(), &expected)
+        .ok()
+        .ok_or("memory")?;
+    Ok(())
+}
+
+fn replay_profiled<A: Abort>(rt: &A, alloc: Global, expected: &Expected<'_>) -> Result<(), Memory> {
+    let parts = pair(alloc)?;
+    let program = checked(rt, alloc, parts)?;
+    let settings = pair_settings(alloc, 2)?;
+    run::<Brand, A>(
+        rt,
+        alloc,
+        &program,
+        &settings,
+        &profiled_journal(),
+        &profiled_points(),
+        expected,
+    )
+}
+
+#[test]
+fn the_profiler_records_two_that_stand_in_the_queue(rt: HostRuntime) -> Result<(), Fail> {
+    let told = [
+        (PLAIN, 0, [1, 1, 1], [0, 0]),
+        (born(1), 1, [2, 2, 1], [0, 0]),
+        (PLAIN, 1, [2, 2, 0], [0, 0]),
+        (PLAIN, 1, [2, 2, 0], [1, 1]),
+        (PLAIN, 1, [2, 2, 0], [1, 1]),
+        (PLAIN, 1, [2, 2, 0], [1, 1]),
+        (PLAIN, 1, [2, 2, 0], [0, 1]),
+        (PLAIN, 1, [2, 2, 1], [0, 1]),
+        (DIED, 3, [2, 1, 0], [0, 1]),
+        (PLAIN, 3, [2, 1, 1], [0, 1]),
+        (DIED, 8, [2, 0, 0], [0, 1]),
+    ];
+    let expected = Expected {
+        told: &told,
+        ended: Some(Ended::Main),
+        done: &[8],
+        made: &[7, 4],
+    };
+    replay_profiled(&rt, rt.alloc(), &expected)
         .ok()
         .ok_or("memory")?;
     Ok(())
@@ -516,6 +591,57 @@ fn two_workers_each_record_what_they_start(rt: HostRuntime) -> Result<(), Fail> 
         made: &[6, 3, 2],
     };
     replay_parallel(&rt, rt.alloc(), &expected)
+        .ok()
+        .ok_or("memory")?;
+    Ok(())
+}
+
+fn replay_full<A: Abort>(rt: &A, alloc: Global, expected: &Expected<'_>) -> Result<(), Memory> {
+    let parts = long(alloc)?;
+    let program = checked(rt, alloc, parts)?;
+    let settings = full_settings(alloc)?;
+    run::<Brand, A>(
+        rt,
+        alloc,
+        &program,
+        &settings,
+        &full_journal(),
+        &full_points(),
+        expected,
+    )
+}
+
+#[test]
+fn a_full_journal_ends_the_run_and_is_profiled(rt: HostRuntime) -> Result<(), Fail> {
+    let told = [
+        (PLAIN, 0, [1, 1, 1], [0, 0]),
+        (PLAIN, 1000, [1, 1, 1], [0, 0]),
+        (PLAIN, 1000, [1, 1, 0], [0, 0]),
+        (PLAIN, 1000, [1, 1, 1], [0, 0]),
+        (PLAIN, 2000, [1, 1, 1], [0, 0]),
+        (PLAIN, 2000, [1, 1, 0], [0, 0]),
+        (PLAIN, 2000, [1, 1, 1], [0, 0]),
+        (PLAIN, 3000, [1, 1, 1], [0, 0]),
+        (PLAIN, 3000, [1, 1, 0], [0, 0]),
+        (PLAIN, 3000, [1, 1, 1], [0, 0]),
+        (PLAIN, 4000, [1, 1, 1], [0, 0]),
+        (PLAIN, 4000, [1, 1, 0], [0, 0]),
+        (PLAIN, 4000, [1, 1, 1], [0, 0]),
+        (PLAIN, 5000, [1, 1, 1], [0, 0]),
+        (PLAIN, 5000, [1, 1, 0], [0, 0]),
+        (PLAIN, 5000, [1, 1, 1], [0, 0]),
+        (PLAIN, 5000, [1, 1, 0], [0, 0]),
+        (PLAIN, 5000, [1, 1, 0], [1, 1]),
+        (PLAIN, 5000, [1, 1, 0], [1, 1]),
+        (PLAIN, 5000, [1, 1, 0], [0, 1]),
+    ];
+    let expected = Expected {
+        told: &told,
+        ended: Some(Ended::Full),
+        done: &[5000],
+        made: &[17, 3],
+    };
+    replay_full(&rt, rt.alloc(), &expected)
         .ok()
         .ok_or("memory")?;
     Ok(())

@@ -156,6 +156,18 @@ pub(super) fn deadlock_points() -> [Option<SharedPoint>; 9]
     [None, SPAWN, RECV, None, RECV, None, None, None, None]
 }
 
+pub(super) fn one_cell_journal() -> [Entry; 2]
+    ensures { result ≡ worked.one_cell_journal }
+{
+    [Entry::Start { w: 0, g: 0 }, Entry::Op { w: 0, g: 0 }]
+}
+
+pub(super) fn one_cell_points() -> [Option<SharedPoint>; 2]
+    ensures { ArePointsOf worked.deadlocked worked.one_cell worked.one_cell_journal result }
+{
+    [None, SPAWN]
+}
+
 pub(super) fn fault_journal() -> [Entry; 6]
     ensures { result ≡ worked.fault_journal }
 {
@@ -224,6 +236,32 @@ pub(super) fn refused_points() -> [Option<SharedPoint>; 8]
     [None, SPAWN, None, None, None, None, None, None]
 }
 
+pub(super) fn profiled_journal() -> [Entry; 11]
+    ensures { result ≡ worked.profiled_journal }
+{
+    [
+        Entry::Start { w: 0, g: 0 },
+        Entry::Op { w: 0, g: 0 },
+        Entry::Park { w: 0, g: 0 },
+        Entry::Open { epoch: 1, room: 2 },
+        Entry::Record { actor: 1, g: 0 },
+        Entry::Record { actor: 1, g: 1 },
+        Entry::Close { epoch: 1 },
+        Entry::Start { w: 0, g: 1 },
+        Entry::Run { w: 0, g: 1, n: 2 },
+        Entry::Start { w: 0, g: 0 },
+        Entry::Run { w: 0, g: 0, n: 5 },
+    ]
+}
+
+pub(super) fn profiled_points() -> [Option<SharedPoint>; 11]
+    ensures { ArePointsOf worked.pair (worked.pair_settings 2) worked.profiled_journal result }
+{
+    [
+        None, SPAWN, None, None, None, None, None, None, None, None, None,
+    ]
+}
+
 pub(super) fn parallel_journal() -> [Entry; 11]
     ensures { result ≡ worked.side_by_side }
 {
@@ -251,4 +289,60 @@ pub(super) fn parallel_points() -> [Option<SharedPoint>; 11]
     [
         None, SPAWN, None, None, None, None, None, None, None, None, None,
     ]
+}
+
+pub(super) fn full_journal() -> [Entry; 20]
+    ensures { result ≡ worked.full_journal }
+{
+    [
+        Entry::Start { w: 0, g: 0 },
+        Entry::Run {
+            w: 0,
+            g: 0,
+            n: 1000,
+        },
+        Entry::Park { w: 0, g: 0 },
+        Entry::Start { w: 0, g: 0 },
+        Entry::Run {
+            w: 0,
+            g: 0,
+            n: 1000,
+        },
+        Entry::Park { w: 0, g: 0 },
+        Entry::Start { w: 0, g: 0 },
+        Entry::Run {
+            w: 0,
+            g: 0,
+            n: 1000,
+        },
+        Entry::Park { w: 0, g: 0 },
+        Entry::Start { w: 0, g: 0 },
+        Entry::Run {
+            w: 0,
+            g: 0,
+            n: 1000,
+        },
+        Entry::Park { w: 0, g: 0 },
+        Entry::Start { w: 0, g: 0 },
+        Entry::Run {
+            w: 0,
+            g: 0,
+            n: 1000,
+        },
+        Entry::Park { w: 0, g: 0 },
+        Entry::Start { w: 0, g: 0 },
+        Entry::Park { w: 0, g: 0 },
+        Entry::Open {
+            epoch: 1,
+            room: 1024,
+        },
+        Entry::Record { actor: 1, g: 0 },
+        Entry::Close { epoch: 1 },
+    ]
+}
+
+pub(super) fn full_points() -> [Option<SharedPoint>; 20]
+    ensures { ArePointsOf worked.long worked.full_settings worked.full_journal result }
+{
+    [None; 20]
 }

@@ -162,6 +162,14 @@ pub(super) fn deadlocked(alloc: Global) -> Result<Parts, Memory>
     Ok(program_of(alloc, functions, channels, mutexes))
 }
 
+pub(super) fn one_cell(alloc: Global) -> Result<Settings, Memory>
+    ensures { IfOk result (λ settings. settings ≡ worked.one_cell) }
+{
+    let mut settings = plain(alloc, &[])?;
+    settings.cells = 1;
+    Ok(settings)
+}
+
 pub(super) fn faulty(alloc: Global) -> Result<Parts, Memory>
     ensures { IfOk result (λ parts. parts ≡ worked.faulty) }
 {
@@ -211,11 +219,11 @@ pub(super) fn pair(alloc: Global) -> Result<Parts, Memory>
     Ok(program_of(alloc, functions, channels, mutexes))
 }
 
-pub(super) fn room_for_one(alloc: Global) -> Result<Settings, Memory>
-    ensures { IfOk result (λ settings. settings ≡ worked.pair_settings 1) }
+pub(super) fn pair_settings(alloc: Global, room: u32) -> Result<Settings, Memory>
+    ensures { IfOk result (λ settings. settings ≡ worked.pair_settings room) }
 {
     let mut settings = plain(alloc, &[Request::Clock { clock: 1 }])?;
-    settings.room = 1;
+    settings.room = room;
     Ok(settings)
 }
 
@@ -224,5 +232,24 @@ pub(super) fn two_workers(alloc: Global) -> Result<Settings, Memory>
 {
     let mut settings = plain(alloc, &[Request::Clock { clock: 1 }])?;
     settings.workers = 2;
+    Ok(settings)
+}
+
+pub(super) fn long(alloc: Global) -> Result<Parts, Memory>
+    ensures { IfOk result (λ parts. parts ≡ worked.long) }
+{
+    let body = vec![in alloc; statement(2, What::Work { n: 20000 })]?;
+    let main = main_function(alloc, 1, 3, body)?;
+    let functions = vec![in alloc; main]?;
+    let channels = Vec::new(alloc);
+    let mutexes = Vec::new(alloc);
+    Ok(program_of(alloc, functions, channels, mutexes))
+}
+
+pub(super) fn full_settings(alloc: Global) -> Result<Settings, Memory>
+    ensures { IfOk result (λ settings. settings ≡ worked.full_settings) }
+{
+    let mut settings = plain(alloc, &[Request::End])?;
+    settings.entries = 16;
     Ok(settings)
 }
