@@ -1,0 +1,65 @@
+-- The options of a command: each is a word and its value.
+use Rattle.std.specs.Prelude.{◌≤◌, ◌+◌, ◌*◌, ◌^◌, ℕ, List, [], ◌∷◌, ◌++◌, length, All, Option, Some, None, option_map, count_by, codes, nat_lt, if◌then◌else◌}
+use Rattle.std.specs.Str.{bytes_eq}
+use Rattle.gp_machine.specs.declared.settings.Request.TheVariants.{Clock, End}
+use Rattle.gp_words.specs.declared.cause.TheConstants.{MISSING, UNKNOWN_OPTION, BAD_NUMBER, TWICE}
+use Rattle.gp_words.specs.declared.setting.Setting.{Setting}
+use Rattle.gp_words.specs.declared.setting.Values.{Values}
+use Rattle.gp_words.specs.declared.setting.Values.TheVariants.{Numbers, Instants, Lists}
+use Rattle.gp_words.specs.declared.choice.Choice.{Choice}
+use Rattle.gp_words.specs.declared.choice.Value.{Value}
+use Rattle.gp_words.specs.declared.choice.Value.TheVariants.{Number, Instant, List as Listed}
+use Rattle.gp_words.specs.Numbers.{number_in, picks_of}
+use Rattle.gp_words.specs.Table.{setting_of, values_of, most_times, same, IsOneOf}
+use Rattle.gp_words.specs.Read.{Read, Names, Faults, behind}
+
+-- the value that a word writes, where it's one of these values
+unfoldable pub value_of : Values → List ℕ → Option Value
+value_of (Numbers least most) word = option_map Number (number_in least most word)
+value_of Instants word = if bytes_eq word (codes "end") then Some (Instant End) else option_map (λ n. Instant (Clock n)) (number_in 0 (2 ^ 40) word)
+value_of Lists word = option_map Listed (picks_of word)
+
+-- how often a setting was chosen
+abbrev pub times : Setting → List Choice → ℕ
+times setting taken = count_by (λ choice. same choice.setting setting) taken
+
+-- the place of the option behind those taken: the first is at 2, and each has two words
+abbrev pub place_behind : List Choice → ℕ
+place_behind taken = 2 + 2 * length taken
+
+-- a choice of a setting, or the fault of the value at a place
+abbrev pub choice_at : ℕ → Setting → Option Value → Read Choice
+choice_at place setting None = Faults place BAD_NUMBER
+choice_at place setting (Some value) = Names (record { setting = setting; value = value })
+
+-- the choice of a setting whose value's place is this, with the words from there on
+abbrev pub valued : ℕ → Setting → List (List ℕ) → Read Choice
+valued place setting [] = Faults place MISSING
+valued place setting (word ∷ words) = choice_at place setting (value_of (values_of setting) word)
+
+-- the same where the option's word names a setting, or none, behind those taken
+abbrev pub known : List Choice → Option Setting → List (List ℕ) → Read Choice
+known taken None after = Faults (place_behind taken) UNKNOWN_OPTION
+known taken (Some setting) after =
+    if nat_lt (times setting taken) (most_times setting) then valued (place_behind taken + 1) setting after
+    else Faults (place_behind taken) TWICE
+
+-- the choice of the option at a word, with the words after it, behind those taken
+unfoldable pub choice_of : List Choice → List ℕ → List (List ℕ) → Read Choice
+choice_of taken word after = known taken (setting_of word) after
+
+-- the options of words, behind those taken
+unfoldable pub options_of : List Choice → List (List ℕ) → Read (List Choice)
+options_of taken [] = Names taken
+options_of taken (word ∷ []) = behind (choice_of taken word []) (λ choice. Names (taken ++ choice ∷ []))
+options_of taken (word ∷ value ∷ words) =
+    behind (choice_of taken word (value ∷ [])) (λ choice. options_of (taken ++ choice ∷ []) words)
+
+-- A choice's value is one of its setting's values.
+abbrev pub IsInTable : Choice → Type 0
+IsInTable choice = IsOneOf (values_of choice.setting) choice.value
+
+-- The options taken lie in the table, and none was given too often.
+pub record IsSound (taken : List Choice) : Type 0 where
+  pub in_table : All IsInTable taken
+  pub at_most : (setting : Setting) → times setting taken ≤ most_times setting
