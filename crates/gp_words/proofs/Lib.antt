@@ -1,0 +1,5 @@
+pub mod Texts
+pub mod Digits
+pub mod Lists
+pub mod Sound
+pub mod Taking

@@ -32,28 +32,28 @@ abbrev pub choice_at : ℕ → Setting → Option Value → Read Choice
 choice_at place setting None = Faults place BAD_NUMBER
 choice_at place setting (Some value) = Names (record { setting = setting; value = value })
 
--- the choice of a setting whose value's place is this, with the words from there on
-abbrev pub valued : ℕ → Setting → List (List ℕ) → Read Choice
-valued place setting [] = Faults place MISSING
-valued place setting (word ∷ words) = choice_at place setting (value_of (values_of setting) word)
+-- the choice of a setting, with the word at the value's place
+abbrev pub valued : ℕ → Setting → Option (List ℕ) → Read Choice
+valued place setting None = Faults place MISSING
+valued place setting (Some word) = choice_at place setting (value_of (values_of setting) word)
 
 -- the same where the option's word names a setting, or none, behind those taken
-abbrev pub known : List Choice → Option Setting → List (List ℕ) → Read Choice
-known taken None after = Faults (place_behind taken) UNKNOWN_OPTION
-known taken (Some setting) after =
-    if nat_lt (times setting taken) (most_times setting) then valued (place_behind taken + 1) setting after
+abbrev pub known : List Choice → Option Setting → Option (List ℕ) → Read Choice
+known taken None value = Faults (place_behind taken) UNKNOWN_OPTION
+known taken (Some setting) value =
+    if nat_lt (times setting taken) (most_times setting) then valued (place_behind taken + 1) setting value
     else Faults (place_behind taken) TWICE
 
--- the choice of the option at a word, with the words after it, behind those taken
-unfoldable pub choice_of : List Choice → List ℕ → List (List ℕ) → Read Choice
-choice_of taken word after = known taken (setting_of word) after
+-- the choice of an option's word, and the word behind it where there is one, behind those taken
+unfoldable pub choice_of : List Choice → List ℕ → Option (List ℕ) → Read Choice
+choice_of taken word value = known taken (setting_of word) value
 
--- the options of words, behind those taken
+-- the options of words, two words each, behind those taken
 unfoldable pub options_of : List Choice → List (List ℕ) → Read (List Choice)
 options_of taken [] = Names taken
-options_of taken (word ∷ []) = behind (choice_of taken word []) (λ choice. Names (taken ++ choice ∷ []))
+options_of taken (word ∷ []) = behind (choice_of taken word None) (λ choice. Names (taken ++ choice ∷ []))
 options_of taken (word ∷ value ∷ words) =
-    behind (choice_of taken word (value ∷ [])) (λ choice. options_of (taken ++ choice ∷ []) words)
+    behind (choice_of taken word (Some value)) (λ choice. options_of (taken ++ choice ∷ []) words)
 
 -- A choice's value is one of its setting's values.
 abbrev pub IsInTable : Choice → Type 0

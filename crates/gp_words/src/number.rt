@@ -1,13 +1,22 @@
-ghost use Rattle.std.specs.Prelude.{◌≡◌, IsTrue, ◌↔◌};
+ghost use Rattle.std.specs.Prelude.{◌≡◌};
 ghost use Rattle.std.specs.Str.{all_ascii_digits};
 ghost use Rattle.gp_words.specs.Numbers.{is_number, number_in};
+
+fn are_digits(word: &[u8]) -> bool
+    ensures { result ≡ all_ascii_digits word.now }
+{
+    word.iter().all(|byte| byte.is_ascii_digit())
+}
 
 /// Whether a word is one to twenty digits.
 fn is_number(word: &str) -> bool
     ensures { result ≡ is_number word.now }
 {
     let digits = word.as_bytes();
-    1 <= digits.len() && digits.len() <= 20 && digits.iter().all(u8::is_ascii_digit)
+    if digits.is_empty() || digits.len() > 20 {
+        return false;
+    }
+    are_digits(digits)
 }
 
 /// The number that a word writes, where it lies from `least` to `most`.
@@ -18,5 +27,8 @@ pub(crate) fn number(word: &str, least: u64, most: u64) -> Option<u64>
         return None;
     }
     let number = word.parse::<u64>().ok()?;
-    (least <= number && number <= most).then_some(number)
+    if number < least || number > most {
+        return None;
+    }
+    Some(number)
 }

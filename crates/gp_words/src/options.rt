@@ -1,4 +1,5 @@
-ghost use Rattle.std.specs.Prelude.{◌≡◌, [], IfOk};
+ghost use Rattle.std.specs.Prelude.{◌≡◌, [], IfOk, string_bytes};
+ghost use Rattle.std.specs.Option.{option_map};
 ghost use Rattle.gp_words.specs.Words.{texts};
 ghost use Rattle.gp_words.specs.Read.{Reads};
 ghost use Rattle.gp_words.specs.declared.setting.Values.TheVariants.{Instants};
@@ -52,15 +53,15 @@ fn times(taken: &[Choice], setting: Setting) -> usize
         .count()
 }
 
-/// The option of a word and those after it, behind the options taken before.
+/// The option of a word and the word behind it, where there is one, behind the options taken before.
 fn choice(
     alloc: Global,
     taken: &[Choice],
     word: &str,
-    after: &[String],
+    value_word: Option<&String>,
 ) -> Result<Choice, WordError>
     requires { IsSound taken.now }
-    ensures { Reads result (choice_of taken.now word.now (texts after.now)) }
+    ensures { Reads result (choice_of taken.now word.now (option_map (λ w. string_bytes w.now) value_word.entry)) }
 {
     let place = 2 + 2 * taken.len() as u32;
     let Some(setting) = Setting::named(word) else {
@@ -75,7 +76,7 @@ fn choice(
             cause: TWICE,
         });
     }
-    let [value_word, ..] = after else {
+    let Some(value_word) = value_word else {
         return Err(WordError::Usage {
             place: place + 1,
             cause: MISSING,
@@ -90,17 +91,17 @@ fn choice(
     }
 }
 
-/// The options of words, which begin at place 2.
+/// The options of words, two words each, the first of which is at place 2.
 pub(crate) fn options(alloc: Global, words: &[String]) -> Result<Choices, WordError>
     ensures options { Reads result (options_of [] (texts words.now)) }
     ensures sound { IfOk result IsSound }
 {
     let mut taken = Choices::new(alloc);
-    let mut rest = words;
-    while let [word, after @ ..] = rest {
-        let choice = choice(alloc, taken.as_slice(), word.as_str(), after)?;
+    let mut rest = words.iter();
+    while let Some(word) = rest.next() {
+        let value_word = rest.next();
+        let choice = choice(alloc, taken.as_slice(), word.as_str(), value_word)?;
         taken.push(choice)?;
-        rest = &after[1..];
     }
     Ok(taken)
 }
