@@ -3,3 +3,5 @@ pub mod Digits
 pub mod Lists
 pub mod Sound
 pub mod Taking
+pub mod Ranges
+pub mod Commands

@@ -6,16 +6,15 @@ use Rattle.std.specs.Global.{Global}
 use Rattle.gp_words.specs.declared.error.WordError.{WordError}
 use Rattle.gp_words.specs.declared.error.WordError.TheVariants.{Usage, Memory}
 use Rattle.std.proofs.lemmas.Bool.{lt-ltb, le-ltb, ltb-true}
-use Rattle.gp_words.specs.declared.cause.TheConstants.{MISSING, UNKNOWN_OPTION, BAD_NUMBER, TWICE}
+use Rattle.gp_words.specs.declared.cause.TheConstants.{UNKNOWN_OPTION, TWICE}
 use Rattle.gp_words.specs.declared.setting.Setting.{Setting}
-use Rattle.gp_words.specs.declared.setting.Values.{Values}
 use Rattle.gp_words.specs.declared.choice.Choice.{Choice}
 use Rattle.gp_words.specs.declared.choice.Value.{Value}
 use Rattle.gp_words.proofs.Lists.{value_in_table}
 use Rattle.gp_words.specs.Words.{texts}
-use Rattle.gp_words.specs.Table.{setting_of, values_of, most_times, IsOneOf}
+use Rattle.gp_words.specs.Table.{setting_of, values_of, most_times}
 use Rattle.gp_words.specs.Read.{Read, Names, Faults, behind, IsFault, Reads}
-use Rattle.gp_words.specs.Options.{value_of, times, place_behind, choice_at, valued, known, choice_of, options_of, IsInTable, IsSound}
+use Rattle.gp_words.specs.Options.{value_of, times, place_behind, choice_at, valued, known, choice_of, options_of, IsInTable}
 
 pub unknown : (taken : List Choice) (word : List ℕ) (value : Option (List ℕ)) → setting_of word ≡ None → choice_of taken word value ≡ Faults (place_behind taken) UNKNOWN_OPTION
 unfolding choice_of

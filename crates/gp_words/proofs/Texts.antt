@@ -1,5 +1,5 @@
 -- Texts that are compared, and the settings that words name.
-use Rattle.std.proofs.Common.{◌≡◌, ◌≢◌, ℕ, List, false, Option, Some, None, sym, ap, ◌∙◌, refl, codes}
+use Rattle.std.proofs.Common.{◌≡◌, ℕ, List, false, Some, None, sym, ap, ◌∙◌, codes}
 use Rattle.std.specs.Str.{bytes_eq}
 use Rattle.std.specs.Cmp.Lexicographic.{bytes_decides}
 use Rattle.std.proofs.lemmas.Bool.{false_from_ne_true}

@@ -1,5 +1,5 @@
 -- The table of options: their words, their values, and how often each may be given.
-use Rattle.std.specs.Prelude.{◌≤◌, ◌<◌, ◌==◌, ◌^◌, ◌-◌, ℕ, Bool, List, [], ◌∷◌, length, All, Option, Some, None, codes, if◌then◌else◌}
+use Rattle.std.specs.Prelude.{◌≤◌, ◌<◌, ◌==◌, ◌^◌, ◌-◌, ℕ, Bool, List, length, All, Option, Some, None, codes, if◌then◌else◌}
 use Rattle.std.specs.Str.{bytes_eq}
 use Rattle.gp_machine.specs.Settings.{IsInstant}
 use Rattle.gp_words.specs.declared.setting.Setting.{Setting}

@@ -1,7 +1,7 @@
 ghost use Rattle.std.specs.Prelude.{◌≡◌, IfOk};
 ghost use Rattle.gp_machine.specs.Settings.{AreInRange};
 ghost use Rattle.gp_words.specs.Options.{IsSound};
-ghost use Rattle.gp_words.specs.Settings.{number_of, instants_of, list_of, settings_of};
+ghost use Rattle.gp_words.specs.Settings.{number_or, instants_of, list_of, settings_of};
 
 use crate::choice::{Choice, Choices, Value};
 use crate::setting::Setting;
@@ -9,18 +9,18 @@ use gp_isa::Memory;
 use gp_machine::{Picks, Requests, Settings};
 use std::alloc::Global;
 
-/// The number that a setting was given.
-fn number(taken: &[Choice], setting: Setting) -> Option<u64>
-    ensures { result ≡ number_of setting taken.now }
+/// The number that a setting was given, else the usual one.
+fn number(taken: &[Choice], setting: Setting, usual: u64) -> u64
+    ensures { result ≡ number_or usual setting taken.now }
 {
     for choice in taken {
         if let Value::Number { number } = choice.value {
             if choice.setting.is(setting) {
-                return Some(number);
+                return number;
             }
         }
     }
-    None
+    usual
 }
 
 /// The instants given, in their order.
@@ -55,11 +55,11 @@ pub(crate) fn settings(alloc: Global, taken: Choices) -> Result<Settings, Memory
     ensures range { IfOk result AreInRange }
 {
     let choices = taken.as_slice();
-    let cells = number(choices, Setting::Cells).unwrap_or(1_024);
-    let room = number(choices, Setting::Room).unwrap_or(cells);
-    let workers = number(choices, Setting::Workers).unwrap_or(2);
-    let entries = number(choices, Setting::Entries).unwrap_or(262_144);
-    let seed = number(choices, Setting::Seed).unwrap_or(42);
+    let workers = number(choices, Setting::Workers, 2);
+    let cells = number(choices, Setting::Cells, 1_024);
+    let room = number(choices, Setting::Room, cells);
+    let entries = number(choices, Setting::Entries, 262_144);
+    let seed = number(choices, Setting::Seed, 42);
     let at = instants(alloc, choices)?;
     Ok(Settings {
         workers: workers as u32,

@@ -26,7 +26,7 @@ fn sim(alloc: Global, words: &[String]) -> Result<Job, WordError>
     ensures job { Reads result (sim_of (texts words.now)) }
     ensures range { IfOk result (λ job. AreInRange (settings_in job)) }
 {
-    let [file, words @ ..] = words else {
+    let Some((file, option_words)) = words.split_first() else {
         return Err(WordError::Usage {
             place: 1,
             cause: MISSING,
@@ -39,7 +39,8 @@ fn sim(alloc: Global, words: &[String]) -> Result<Job, WordError>
             cause: EXTRA,
         });
     }
-    let settings = settings(alloc, options(alloc, words)?)?;
+    let taken = options(alloc, option_words)?;
+    let settings = settings(alloc, taken)?;
     let file = Text::from_str(alloc, file)?;
     Ok(Job::Sim { file, settings })
 }
@@ -57,17 +58,17 @@ pub fn job(alloc: Global, words: &[String]) -> Result<Job, WordError>
     // A fault is exactly the first one in the words.
     ensures usage { IfErr result (λ error. IsFault error (job_of (texts words.now))) }
 {
-    let [command, words @ ..] = words else {
+    let Some((command, after)) = words.split_first() else {
         return Err(WordError::Usage {
             place: 0,
             cause: BAD_COMMAND,
         });
     };
-    if command.as_str() != "sim" {
-        return Err(WordError::Usage {
+    match command.as_str() {
+        "sim" => sim(alloc, after),
+        _ => Err(WordError::Usage {
             place: 0,
             cause: BAD_COMMAND,
-        });
+        }),
     }
-    sim(alloc, words)
 }

@@ -1,4 +1,4 @@
-use Rattle.std.proofs.Common.{arith, sym, ◌∙◌, ap, length, ◌<◌, ◌≡◌, List, ℕ}
+use Rattle.std.proofs.Common.{arith, sym, ◌∙◌, ap, length, List, ℕ}
 use Rattle.std.specs.Str.{all_ascii_digits}
 use Rattle.std.proofs.lemmas.Bool.{eqb-true, eqb-false}
 use Rattle.gp_words.proofs.Digits.{none_empty, none_long, number_if}

@@ -1,4 +1,4 @@
-use Rattle.std.proofs.Common.{arith, sym, ◌∙◌, ap, Option, Some}
+use Rattle.std.proofs.Common.{arith, sym, ◌∙◌}
 use Rattle.gp_words.proofs.Digits.{none_in, parsed_some, parsed_none, value_in, value_below, value_above}
 use Rattle.gp_words.proofs.number.number.Goals as goal
 use Rattle.gp_words.proofs.number.number.Goals.{then-number-least-via-then-number-least, then-number-least-via-else-number-least+then-number-most}

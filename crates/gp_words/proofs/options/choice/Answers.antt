@@ -1,6 +1,6 @@
-use Rattle.std.proofs.Common.{◌≡◌, ◌+◌, ◌*◌, ◌<◌, ◌≤◌, ◌^◌, length, Some, None, sym, ap, ◌∙◌, arith, string_bytes, option_map}
-use Rattle.gp_words.specs.Table.{setting_of, values_of, most_times}
-use Rattle.gp_words.specs.Options.{value_of, times, place_behind, valued, choice_at}
+use Rattle.std.proofs.Common.{◌≡◌, ◌+◌, Some, None, sym, ap, ◌∙◌, arith, string_bytes, option_map}
+use Rattle.gp_words.specs.Table.{setting_of, values_of}
+use Rattle.gp_words.specs.Options.{value_of, place_behind, valued, choice_at}
 use Rattle.gp_words.proofs.Sound.{few}
 use Rattle.gp_words.proofs.Taking.{unknown, twice, allowed}
 use Rattle.gp_words.proofs.options.choice.Goals as goal

@@ -1,4 +1,4 @@
-use Rattle.std.proofs.Common.{rules, arith, sym, codes, ◌≡◌, ◌∙◌}
+use Rattle.std.proofs.Common.{arith}
 use Rattle.std.proofs.lemmas.Grind.{common_steps}
 use Rattle.gp_words.specs.Options.{value_of}
 use Rattle.gp_words.proofs.options.instant.Goals as goal
