@@ -6,7 +6,7 @@ use gp_isa::Memory;
 /// Why words are no job.
 #[derive(Clone, Copy, Debug, PartialEq, Eq)]
 pub enum WordError {
-    /// The first fault in the words: the place of a word, counted from 0, and one of the causes in [`crate::cause`].
+    /// The first fault in the words: the place of a word, counted from 0, and one of the causes of [`crate::cause`].
     Usage { place: u32, cause: u8 },
     /// An allocation was refused.
     Memory,

@@ -14,7 +14,7 @@ pub(crate) enum Setting {
 }
 
 /// The values that an option may have.
-#[derive(Clone, Copy, Debug, PartialEq, Eq)]
+#[derive(Clone, Copy, Debug)]
 pub(crate) enum Values {
     /// A number from `least` to `most`.
     Numbers { least: u64, most: u64 },
