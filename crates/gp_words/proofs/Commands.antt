@@ -10,7 +10,7 @@ use Rattle.gp_words.specs.declared.choice.Choice.{Choice}
 use Rattle.gp_words.specs.declared.jobs.Job.{Job}
 use Rattle.gp_words.specs.declared.jobs.Job.TheVariants.{Sim}
 use Rattle.gp_words.specs.Words.{texts, is_file_word, IsFileWord}
-use Rattle.gp_words.specs.Read.{Read, Names, Faults, behind, IsFault, Reads}
+use Rattle.gp_words.specs.Read.{Read, Names, Faults, and_then, IsFault, Reads}
 use Rattle.gp_words.specs.Options.{options_of}
 use Rattle.gp_words.specs.Settings.{settings_of}
 use Rattle.gp_words.specs.Job.{sim_of, job_of, file_of}
@@ -29,27 +29,27 @@ sim_none (word ∷ words) none = absurd (omega arith)
 -- a word that is no file's
 pub sim_no_file : (file : List ℕ) (words : List (List ℕ)) → is_file_word file ≡ false → sim_of (file ∷ words) ≡ Faults 1 EXTRA
 unfolding sim_of
-sim_no_file file words e = ap (λ b. cond b (behind (options_of [] words) (λ taken. Names (Sim file (settings_of taken)))) (Faults 1 EXTRA)) e
+sim_no_file file words e = ap (λ b. cond b (and_then (options_of [] words) (λ taken. Names (Sim file (settings_of taken)))) (Faults 1 EXTRA)) e
 
 -- a file, and options
-pub sim_with_options : (file : List ℕ) (words : List (List ℕ)) → is_file_word file ≡ true → sim_of (file ∷ words) ≡ behind (options_of [] words) (λ taken. Names (Sim file (settings_of taken)))
+pub sim_with_options : (file : List ℕ) (words : List (List ℕ)) → is_file_word file ≡ true → sim_of (file ∷ words) ≡ and_then (options_of [] words) (λ taken. Names (Sim file (settings_of taken)))
 unfolding sim_of
-sim_with_options file words e = ap (λ b. cond b (behind (options_of [] words) (λ taken. Names (Sim file (settings_of taken)))) (Faults 1 EXTRA)) e
+sim_with_options file words e = ap (λ b. cond b (and_then (options_of [] words) (λ taken. Names (Sim file (settings_of taken)))) (Faults 1 EXTRA)) e
 
 pub sim_fault : (file : List ℕ) (words : List (List ℕ)) (error : WordError) → is_file_word file ≡ true → IsFault error (options_of [] words) → IsFault error (sim_of (file ∷ words))
 sim_fault file words (Usage place cause) is e =
-    sim_with_options file words is ∙ ap (λ o. behind o (λ taken. Names (Sim file (settings_of taken)))) e
+    sim_with_options file words is ∙ ap (λ o. and_then o (λ taken. Names (Sim file (settings_of taken)))) e
 sim_fault file words Memory is e = tt
 
 pub sim_job : (file : List ℕ) (words : List (List ℕ)) (taken : List Choice) → is_file_word file ≡ true → options_of [] words ≡ Names taken → sim_of (file ∷ words) ≡ Names (Sim file (settings_of taken))
-sim_job file words taken is e = sim_with_options file words is ∙ ap (λ o. behind o (λ taken. Names (Sim file (settings_of taken)))) e
+sim_job file words taken is e = sim_with_options file words is ∙ ap (λ o. and_then o (λ taken. Names (Sim file (settings_of taken)))) e
 
 -- the file of a job
 sim_file : (words : List (List ℕ)) (job : Job) → sim_of words ≡ Names job → IsFileWord (file_of job)
 unfolding sim_of
 sim_file [] job e = absurd cc
 sim_file (file ∷ words) job e = go (is_file_word file) (options_of [] words) refl e where
-  go : (b : Bool) (o : Read (List Choice)) → is_file_word file ≡ b → cond b (behind o (λ taken. Names (Sim file (settings_of taken)))) (Faults 1 EXTRA) ≡ Names job → IsFileWord (file_of job)
+  go : (b : Bool) (o : Read (List Choice)) → is_file_word file ≡ b → cond b (and_then o (λ taken. Names (Sim file (settings_of taken)))) (Faults 1 EXTRA) ≡ Names job → IsFileWord (file_of job)
   go true (Names taken) is e =
       let same : Sim file (settings_of taken) ≡ job = cc in
       subst (λ (j : Job). IsFileWord (file_of j)) same (is_file file is)

@@ -13,21 +13,21 @@ use Rattle.gp_words.specs.declared.choice.Value.{Value}
 use Rattle.gp_words.proofs.Lists.{value_in_table}
 use Rattle.gp_words.specs.Words.{texts}
 use Rattle.gp_words.specs.Table.{setting_of, values_of, most_times}
-use Rattle.gp_words.specs.Read.{Read, Names, Faults, behind, IsFault, Reads}
-use Rattle.gp_words.specs.Options.{value_of, times, place_behind, choice_at, valued, known, choice_of, options_of, IsInTable}
+use Rattle.gp_words.specs.Read.{Read, Names, Faults, and_then, IsFault, Reads}
+use Rattle.gp_words.specs.Options.{value_of, times, place_behind, choice_at, choice_of_setting, choice_of_named, choice_of, options_of, IsInTable}
 
 pub unknown : (taken : List Choice) (word : List ℕ) (value : Option (List ℕ)) → setting_of word ≡ None → choice_of taken word value ≡ Faults (place_behind taken) UNKNOWN_OPTION
 unfolding choice_of
-unknown taken word value e = ap (λ o. known taken o value) e
+unknown taken word value e = ap (λ o. choice_of_named taken o value) e
 
 pub twice : (taken : List Choice) (word : List ℕ) (value : Option (List ℕ)) (setting : Setting) → setting_of word ≡ Some setting → most_times setting ≤ times setting taken → choice_of taken word value ≡ Faults (place_behind taken) TWICE
 unfolding choice_of
-twice taken word value setting e often = ap (λ o. known taken o value) e ∙ simp (le-ltb (times setting taken) (most_times setting) often)
+twice taken word value setting e often = ap (λ o. choice_of_named taken o value) e ∙ simp (le-ltb (times setting taken) (most_times setting) often)
 
 -- an option whose word names a setting that may be given
-pub allowed : (taken : List Choice) (word : List ℕ) (value : Option (List ℕ)) (setting : Setting) → setting_of word ≡ Some setting → times setting taken < most_times setting → choice_of taken word value ≡ valued (place_behind taken + 1) setting value
+pub allowed : (taken : List Choice) (word : List ℕ) (value : Option (List ℕ)) (setting : Setting) → setting_of word ≡ Some setting → times setting taken < most_times setting → choice_of taken word value ≡ choice_of_setting (place_behind taken + 1) setting value
 unfolding choice_of
-allowed taken word value setting e fewer = ap (λ o. known taken o value) e ∙ simp (lt-ltb (times setting taken) (most_times setting) fewer)
+allowed taken word value setting e fewer = ap (λ o. choice_of_named taken o value) e ∙ simp (lt-ltb (times setting taken) (most_times setting) fewer)
 
 -- What the choice of an option is: its value is in the table, it may be given, and there is a word for its value.
 pub record IsRight (taken : List Choice) (value : Option (List ℕ)) (choice : Choice) : Type 0 where
@@ -45,15 +45,15 @@ right_value taken place setting word (Some value) choice fewer is e =
     (record { in_table = value_in_table (values_of setting) word value is; fewer = fewer; word = word; there = refl })
 
 right_there : (taken : List Choice) (place : ℕ) (setting : Setting) (value : Option (List ℕ)) (choice : Choice) → times setting taken < most_times setting
-    → valued place setting value ≡ Names choice → IsRight taken value choice
+    → choice_of_setting place setting value ≡ Names choice → IsRight taken value choice
 right_there taken place setting None choice fewer e = absurd cc
 right_there taken place setting (Some word) choice fewer e = right_value taken place setting word (value_of (values_of setting) word) choice fewer refl e
 
-right_known : (taken : List Choice) (o : Option Setting) (value : Option (List ℕ)) (choice : Choice) → known taken o value ≡ Names choice → IsRight taken value choice
+right_known : (taken : List Choice) (o : Option Setting) (value : Option (List ℕ)) (choice : Choice) → choice_of_named taken o value ≡ Names choice → IsRight taken value choice
 right_known taken None value choice e = absurd cc
 right_known taken (Some setting) value choice e = go (ltb (times setting taken) (most_times setting)) refl e where
   go : (b : Bool) → ltb (times setting taken) (most_times setting) ≡ b
-      → cond b (valued (place_behind taken + 1) setting value) (Faults (place_behind taken) TWICE) ≡ Names choice → IsRight taken value choice
+      → cond b (choice_of_setting (place_behind taken + 1) setting value) (Faults (place_behind taken) TWICE) ≡ Names choice → IsRight taken value choice
   go true fewer e = right_there taken (place_behind taken + 1) setting value choice (ltb-true (times setting taken) (most_times setting) fewer) e
   go false often e = absurd cc
 
@@ -80,8 +80,8 @@ two_behind (word ∷ words) = words
 pub first_faults : (taken : List Choice) (word : String Global) (words : List (String Global)) (place cause : ℕ) → choice_of taken (string_bytes word) (behind_word words) ≡ Faults place cause
     → options_of taken (texts (word ∷ words)) ≡ Faults place cause
 unfolding options_of
-first_faults taken word [] place cause e = ap (λ o. behind o (λ choice. Names (taken ++ choice ∷ []))) e
-first_faults taken word (value ∷ words) place cause e = ap (λ o. behind o (λ choice. options_of (taken ++ choice ∷ []) (texts words))) e
+first_faults taken word [] place cause e = ap (λ o. and_then o (λ choice. Names (taken ++ choice ∷ []))) e
+first_faults taken word (value ∷ words) place cause e = ap (λ o. and_then o (λ choice. options_of (taken ++ choice ∷ []) (texts words))) e
 
 pub first_fault : (taken : List Choice) (word : String Global) (words : List (String Global)) (error : WordError) → IsFault error (choice_of taken (string_bytes word) (behind_word words))
     → IsFault error (options_of taken (texts (word ∷ words)))
@@ -92,8 +92,8 @@ first_fault taken word words Memory e = tt
 pub first_right : (taken : List Choice) (word : String Global) (words : List (String Global)) (choice : Choice) → choice_of taken (string_bytes word) (behind_word words) ≡ Names choice
     → options_of taken (texts (word ∷ words)) ≡ options_of (taken ++ choice ∷ []) (texts (two_behind words))
 unfolding options_of
-first_right taken word [] choice e = ap (λ o. behind o (λ choice. Names (taken ++ choice ∷ []))) e
-first_right taken word (value ∷ words) choice e = ap (λ o. behind o (λ choice. options_of (taken ++ choice ∷ []) (texts words))) e
+first_right taken word [] choice e = ap (λ o. and_then o (λ choice. Names (taken ++ choice ∷ []))) e
+first_right taken word (value ∷ words) choice e = ap (λ o. and_then o (λ choice. options_of (taken ++ choice ∷ []) (texts words))) e
 
 -- the word behind an option's, as an iterator gives it
 pub second : (s t : Iter (String Global)) (r : Option (Bor (String Global))) → iter_steps s r t → (option_map (λ w. string_bytes w.now) r ≡ behind_word (iter_rest s)) × (iter_rest t ≡ two_behind (iter_rest s))

@@ -6,7 +6,7 @@ use Rattle.gp_words.specs.declared.cause.TheConstants.{BAD_COMMAND, MISSING, EXT
 use Rattle.gp_words.specs.declared.jobs.Job.{Job}
 use Rattle.gp_words.specs.declared.jobs.Job.TheVariants.{Sim}
 use Rattle.gp_words.specs.Words.{is_file_word}
-use Rattle.gp_words.specs.Read.{Read, Names, Faults, behind}
+use Rattle.gp_words.specs.Read.{Read, Names, Faults, and_then}
 use Rattle.gp_words.specs.Options.{options_of}
 use Rattle.gp_words.specs.Settings.{settings_of}
 
@@ -14,7 +14,7 @@ use Rattle.gp_words.specs.Settings.{settings_of}
 unfoldable pub sim_of : List (List ℕ) → Read Job
 sim_of [] = Faults 1 MISSING
 sim_of (file ∷ words) =
-    if is_file_word file then behind (options_of [] words) (λ taken. Names (Sim file (settings_of taken)))
+    if is_file_word file then and_then (options_of [] words) (λ taken. Names (Sim file (settings_of taken)))
     else Faults 1 EXTRA
 
 -- what command words say

@@ -11,7 +11,7 @@ use Rattle.gp_words.specs.declared.choice.Value.{Value}
 use Rattle.gp_words.specs.declared.choice.Value.TheVariants.{Number, Instant, List as Listed}
 use Rattle.gp_words.specs.Numbers.{number_in, picks_of}
 use Rattle.gp_words.specs.Table.{setting_of, values_of, most_times, same, IsOneOf}
-use Rattle.gp_words.specs.Read.{Read, Names, Faults, behind}
+use Rattle.gp_words.specs.Read.{Read, Names, Faults, and_then}
 
 -- the value that a word writes, where it's one of these values
 unfoldable pub value_of : Values → List ℕ → Option Value
@@ -23,37 +23,37 @@ value_of Lists word = option_map Listed (picks_of word)
 abbrev pub times : Setting → List Choice → ℕ
 times setting taken = count_by (λ choice. same choice.setting setting) taken
 
--- the place of the option behind those taken: the first is at 2, and each has two words
+-- the place of the option behind those taken: the first is at place 2, and each has two words
 abbrev pub place_behind : List Choice → ℕ
 place_behind taken = 2 + 2 * length taken
 
--- a choice of a setting, or the fault of the value at a place
+-- the choice of a setting with the value that its word wrote, or the fault at the value's place
 abbrev pub choice_at : ℕ → Setting → Option Value → Read Choice
 choice_at place setting None = Faults place BAD_NUMBER
 choice_at place setting (Some value) = Names (record { setting = setting; value = value })
 
 -- the choice of a setting, with the word at the value's place
-abbrev pub valued : ℕ → Setting → Option (List ℕ) → Read Choice
-valued place setting None = Faults place MISSING
-valued place setting (Some word) = choice_at place setting (value_of (values_of setting) word)
+abbrev pub choice_of_setting : ℕ → Setting → Option (List ℕ) → Read Choice
+choice_of_setting place setting None = Faults place MISSING
+choice_of_setting place setting (Some word) = choice_at place setting (value_of (values_of setting) word)
 
--- the same where the option's word names a setting, or none, behind those taken
-abbrev pub known : List Choice → Option Setting → Option (List ℕ) → Read Choice
-known taken None value = Faults (place_behind taken) UNKNOWN_OPTION
-known taken (Some setting) value =
-    if nat_lt (times setting taken) (most_times setting) then valued (place_behind taken + 1) setting value
+-- the choice of a word that names a setting, or none, behind the options taken
+abbrev pub choice_of_named : List Choice → Option Setting → Option (List ℕ) → Read Choice
+choice_of_named taken None value = Faults (place_behind taken) UNKNOWN_OPTION
+choice_of_named taken (Some setting) value =
+    if nat_lt (times setting taken) (most_times setting) then choice_of_setting (place_behind taken + 1) setting value
     else Faults (place_behind taken) TWICE
 
--- the choice of an option's word, and the word behind it where there is one, behind those taken
+-- the choice of an option: its word, and its value's where there is one; behind the options taken
 unfoldable pub choice_of : List Choice → List ℕ → Option (List ℕ) → Read Choice
-choice_of taken word value = known taken (setting_of word) value
+choice_of taken word value = choice_of_named taken (setting_of word) value
 
--- the options of words, two words each, behind those taken
+-- the options of words, two words each, behind the options taken
 unfoldable pub options_of : List Choice → List (List ℕ) → Read (List Choice)
 options_of taken [] = Names taken
-options_of taken (word ∷ []) = behind (choice_of taken word None) (λ choice. Names (taken ++ choice ∷ []))
+options_of taken (word ∷ []) = and_then (choice_of taken word None) (λ choice. Names (taken ++ choice ∷ []))
 options_of taken (word ∷ value ∷ words) =
-    behind (choice_of taken word (Some value)) (λ choice. options_of (taken ++ choice ∷ []) words)
+    and_then (choice_of taken word (Some value)) (λ choice. options_of (taken ++ choice ∷ []) words)
 
 -- A choice's value is one of its setting's values.
 abbrev pub IsInTable : Choice → Type 0

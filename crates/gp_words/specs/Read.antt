@@ -8,10 +8,10 @@ pub data Read (A : Type 0) : Type 0 where
   Names : A → Read A
   Faults : ℕ → ℕ → Read A
 
--- what is said behind that which the words name
-abbrev pub behind : {A B : Type 0} → Read A → (A → Read B) → Read B
-behind (Names a) rest = rest a
-behind (Faults place cause) rest = Faults place cause
+-- what further words say, after those that name something
+abbrev pub and_then : {A B : Type 0} → Read A → (A → Read B) → Read B
+and_then (Names a) rest = rest a
+and_then (Faults place cause) rest = Faults place cause
 
 -- An answer that there is a fault tells the first one in the words. Nothing is said of want of memory.
 abbrev pub IsFault : {A : Type 0} → WordError → Read A → Type 0

@@ -10,16 +10,19 @@ use Rattle.gp_words.specs.declared.choice.Value.{Value}
 use Rattle.gp_words.specs.declared.choice.Value.TheVariants.{Number, Instant, List as Listed}
 use Rattle.gp_words.specs.Table.{same}
 
+-- the number of a value, if it's one
 abbrev pub number_value : Value → Option ℕ
 number_value (Number n) = Some n
 number_value (Instant request) = None
 number_value (Listed ns) = None
 
+-- the instant of a value, if it's one
 abbrev pub instant_value : Value → Option Request
 instant_value (Number n) = None
 instant_value (Instant request) = Some request
 instant_value (Listed ns) = None
 
+-- the list of a value, if it's one
 abbrev pub list_value : Value → Option (List ℕ)
 list_value (Number n) = None
 list_value (Instant request) = None
@@ -49,6 +52,7 @@ list_of (choice ∷ taken) = unwrap_or (list_value choice.value) (list_of taken)
 abbrev pub number_or : ℕ → Setting → List Choice → ℕ
 number_or usual setting taken = unwrap_or (number_of setting taken) usual
 
+-- the settings: what was given, else the usual values, and the room for all cells; so far no option sets the others
 unfoldable pub settings_of : List Choice → Settings
 settings_of taken = record {
   workers = number_or 2 Workers taken;

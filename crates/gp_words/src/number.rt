@@ -2,6 +2,9 @@ ghost use Rattle.std.specs.Prelude.{◌≡◌};
 ghost use Rattle.std.specs.Str.{all_ascii_digits};
 ghost use Rattle.gp_words.specs.Numbers.{is_number, number_in};
 
+/// The most digits of a number, leading zeros among them.
+const MOST_DIGITS: usize = 20;
+
 fn are_digits(word: &[u8]) -> bool
     ensures { result ≡ all_ascii_digits word.now }
 {
@@ -13,7 +16,7 @@ fn is_number(word: &str) -> bool
     ensures { result ≡ is_number word.now }
 {
     let digits = word.as_bytes();
-    if digits.is_empty() || digits.len() > 20 {
+    if digits.is_empty() || digits.len() > MOST_DIGITS {
         return false;
     }
     are_digits(digits)

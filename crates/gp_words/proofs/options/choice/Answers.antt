@@ -1,6 +1,6 @@
 use Rattle.std.proofs.Common.{◌≡◌, ◌+◌, Some, None, sym, ap, ◌∙◌, arith, string_bytes, option_map}
 use Rattle.gp_words.specs.Table.{setting_of, values_of}
-use Rattle.gp_words.specs.Options.{value_of, place_behind, valued, choice_at}
+use Rattle.gp_words.specs.Options.{value_of, place_behind, choice_of_setting, choice_at}
 use Rattle.gp_words.proofs.Sound.{few}
 use Rattle.gp_words.proofs.Taking.{unknown, twice, allowed}
 use Rattle.gp_words.proofs.options.choice.Goals as goal
@@ -36,7 +36,7 @@ returns-in_default-value_word c =
     let setting = c.in-Some.setting in
     let is : setting_of c.args.word.now ≡ Some setting = cc in
     allowed taken c.args.word.now _ setting is (omega arith)
-    ∙ ap (λ v. valued (place_behind taken + 1) setting (option_map (λ w. string_bytes w.now) v)) c.in_default-value_word.is
+    ∙ ap (λ v. choice_of_setting (place_behind taken + 1) setting (option_map (λ w. string_bytes w.now) v)) c.in_default-value_word.is
 
 pub returns-in-Some-2 : goal.returns-in-Some-2
 returns-in-Some-2 c =
@@ -47,7 +47,7 @@ returns-in-Some-2 c =
     ap (λ v. value_of v (string_bytes c.in-Some-value_word.value_word.now)) (sym c.values.ensures)
     ∙ (ap (value_of c.values.result) (sym c.as_str.ensures.value) ∙ (sym c.in_ok-value.ensures ∙ c.in-Some-2.is)) in
     allowed taken c.args.word.now _ setting is (omega arith)
-    ∙ (ap (λ v. valued (place_behind taken + 1) setting (option_map (λ w. string_bytes w.now) v)) c.in-Some-value_word.is
+    ∙ (ap (λ v. choice_of_setting (place_behind taken + 1) setting (option_map (λ w. string_bytes w.now) v)) c.in-Some-value_word.is
     ∙ ap (choice_at (place_behind taken + 1) setting) value)
 
 pub returns-in-None : goal.returns-in-None
@@ -59,5 +59,5 @@ returns-in-None c =
     ap (λ v. value_of v (string_bytes c.in-Some-value_word.value_word.now)) (sym c.values.ensures)
     ∙ (ap (value_of c.values.result) (sym c.as_str.ensures.value) ∙ (sym c.in_ok-value.ensures ∙ c.in-None.is)) in
     allowed taken c.args.word.now _ setting is (omega arith)
-    ∙ (ap (λ v. valued (place_behind taken + 1) setting (option_map (λ w. string_bytes w.now) v)) c.in-Some-value_word.is
+    ∙ (ap (λ v. choice_of_setting (place_behind taken + 1) setting (option_map (λ w. string_bytes w.now) v)) c.in-Some-value_word.is
     ∙ ap (choice_at (place_behind taken + 1) setting) value)
