@@ -1,0 +1,79 @@
+-- Options that lie in the table, none of which was given too often.
+use Rattle.std.proofs.Common.{◌≡◌, ℕ, zero, suc, ◌<◌, ◌≤◌, ◌+◌, List, [], ◌∷◌, ◌++◌, length, Bool, true, false, cond, sym, ap, ◌∙◌, refl, arith}
+use Rattle.std.proofs.lemmas.Bool.{eqb-true}
+use Rattle.std.proofs.lemmas.List.Elements.{All-push, All-nil}
+use Rattle.std.proofs.lemmas.List.Sums.{sum_by-append, sum_by-cons}
+use Rattle.gp_words.specs.declared.setting.Setting.{Setting}
+use Rattle.gp_words.specs.declared.setting.Setting.TheVariants.{Workers, At, Room, Seed, Cells, Entries, Picks}
+use Rattle.gp_words.specs.declared.choice.Choice.{Choice}
+use Rattle.gp_words.specs.Table.{place_of, same, most_times}
+use Rattle.gp_words.specs.Options.{times, IsInTable, IsSound}
+
+-- the setting at a place of the table
+setting_at : ℕ → Setting
+setting_at zero = Workers
+setting_at (suc zero) = At
+setting_at (suc (suc zero)) = Room
+setting_at (suc (suc (suc zero))) = Seed
+setting_at (suc (suc (suc (suc zero)))) = Cells
+setting_at (suc (suc (suc (suc (suc zero))))) = Entries
+setting_at (suc (suc (suc (suc (suc (suc n)))))) = Picks
+
+back : (setting : Setting) → setting_at (place_of setting) ≡ setting
+unfolding setting_at
+back Workers = refl
+back At = refl
+back Room = refl
+back Seed = refl
+back Cells = refl
+back Entries = refl
+back Picks = refl
+
+-- settings at one place are one
+pub same_is : (a b : Setting) → same a b ≡ true → a ≡ b
+same_is a b e = sym (back a) ∙ (ap setting_at (eqb-true (place_of a) (place_of b) e) ∙ back b)
+
+-- each setting is one of the seven
+one_of_seven : (s : Setting) → cond (same s Workers) 1 0 + cond (same s At) 1 0 + cond (same s Room) 1 0 + cond (same s Seed) 1 0 + cond (same s Cells) 1 0 + cond (same s Entries) 1 0 + cond (same s Picks) 1 0 ≡ 1
+one_of_seven Workers = refl
+one_of_seven At = refl
+one_of_seven Room = refl
+one_of_seven Seed = refl
+one_of_seven Cells = refl
+one_of_seven Entries = refl
+one_of_seven Picks = refl
+
+all_counted : (taken : List Choice) → times Workers taken + times At taken + times Room taken + times Seed taken + times Cells taken + times Entries taken + times Picks taken ≡ length taken
+all_counted [] = refl
+all_counted (choice ∷ taken) =
+    let one = one_of_seven choice.setting in
+    let rest = all_counted taken in
+    omega (arith, more Workers, more At, more Room, more Seed, more Cells, more Entries, more Picks) where
+      more : (s : Setting) → times s (choice ∷ taken) ≡ cond (same choice.setting s) 1 0 + times s taken
+      more s = sum_by-cons (λ (c : Choice). cond (same c.setting s) 1 0) choice taken
+
+-- so there are few options
+pub few : (taken : List Choice) → IsSound taken → length taken ≤ 14
+few taken s =
+    omega (arith, all_counted taken, s.at_most Workers, s.at_most At, s.at_most Room, s.at_most Seed, s.at_most Cells, s.at_most Entries, s.at_most Picks)
+
+pub none_sound : IsSound []
+none_sound = record { in_table = All-nil IsInTable; at_most = λ setting. none_taken setting } where
+  none_taken : (setting : Setting) → times setting [] ≤ most_times setting
+  none_taken setting = omega arith
+
+-- one more option of the table, which may still be given
+pub more_sound : (taken : List Choice) (choice : Choice) → IsSound taken → IsInTable choice → times choice.setting taken < most_times choice.setting → IsSound (taken ++ choice ∷ [])
+more_sound taken choice s table fewer = record { in_table = All-push IsInTable taken choice s.in_table table; at_most = at_most } where
+  at_most : (setting : Setting) → times setting (taken ++ choice ∷ []) ≤ most_times setting
+  at_most setting = go (same choice.setting setting) refl where
+    go : (b : Bool) → same choice.setting setting ≡ b → times setting (taken ++ choice ∷ []) ≤ most_times setting
+    go true e =
+        let is : choice.setting ≡ setting = same_is choice.setting setting e in
+        let more = sum_by-append (λ (c : Choice). cond (same c.setting setting) 1 0) taken (choice ∷ []) in
+        let one : ◌≡◌ {A = ℕ} (cond (same choice.setting setting) 1 0) 1 = ap (λ b. cond b 1 0) e in
+        omega (arith, more, one, ap (λ t. times t taken) is, ap most_times is)
+    go false e =
+        let more = sum_by-append (λ (c : Choice). cond (same c.setting setting) 1 0) taken (choice ∷ []) in
+        let none : ◌≡◌ {A = ℕ} (cond (same choice.setting setting) 1 0) 0 = ap (λ b. cond b 1 0) e in
+        omega (arith, more, none, s.at_most setting)

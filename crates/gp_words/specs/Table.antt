@@ -1,0 +1,67 @@
+-- The table of options: their words, their values, and how often each may be given.
+use Rattle.std.specs.Prelude.{◌≤◌, ◌<◌, ◌==◌, ◌^◌, ◌-◌, ℕ, Bool, List, length, All, Option, Some, None, codes, if◌then◌else◌}
+use Rattle.std.specs.Str.{bytes_eq}
+use Rattle.gp_machine.specs.Settings.{IsInstant}
+use Rattle.gp_words.specs.declared.setting.Setting.{Setting}
+use Rattle.gp_words.specs.declared.setting.Setting.TheVariants.{Workers, At, Room, Seed, Cells, Entries, Picks}
+use Rattle.gp_words.specs.declared.setting.Values.{Values}
+use Rattle.gp_words.specs.declared.setting.Values.TheVariants.{Numbers, Instants, Lists}
+use Rattle.gp_words.specs.declared.choice.Value.{Value}
+use Rattle.gp_words.specs.declared.choice.Value.TheVariants.{Number, Instant, List as Listed}
+
+-- the setting of an option word
+unfoldable pub setting_of : List ℕ → Option Setting
+setting_of word =
+    if bytes_eq word (codes "--workers") then Some Workers else (
+    if bytes_eq word (codes "--at") then Some At else (
+    if bytes_eq word (codes "--room") then Some Room else (
+    if bytes_eq word (codes "--seed") then Some Seed else (
+    if bytes_eq word (codes "--cells") then Some Cells else (
+    if bytes_eq word (codes "--entries") then Some Entries else (
+    if bytes_eq word (codes "--picks") then Some Picks else None))))))
+
+-- the values of a setting
+abbrev pub values_of : Setting → Values
+values_of Workers = Numbers 1 16
+values_of At = Instants
+values_of Room = Numbers 0 16384
+values_of Seed = Numbers 0 (2 ^ 64 - 1)
+values_of Cells = Numbers 1 16384
+values_of Entries = Numbers 16 4194304
+values_of Picks = Lists
+
+-- how often a setting may be given
+abbrev pub most_times : Setting → ℕ
+most_times At = 8
+most_times Workers = 1
+most_times Room = 1
+most_times Seed = 1
+most_times Cells = 1
+most_times Entries = 1
+most_times Picks = 1
+
+-- the place of a setting in the table
+abbrev pub place_of : Setting → ℕ
+place_of Workers = 0
+place_of At = 1
+place_of Room = 2
+place_of Seed = 3
+place_of Cells = 4
+place_of Entries = 5
+place_of Picks = 6
+
+-- whether two settings are one
+abbrev pub same : Setting → Setting → Bool
+same a b = place_of a == place_of b
+
+-- A value is one of these values.
+abbrev pub IsOneOf : Values → Value → Type 0
+IsOneOf (Numbers least most) (Number n) = (least ≤ n) × (n ≤ most)
+IsOneOf (Numbers least most) (Instant request) = ⊥
+IsOneOf (Numbers least most) (Listed ns) = ⊥
+IsOneOf Instants (Number n) = ⊥
+IsOneOf Instants (Instant request) = IsInstant request
+IsOneOf Instants (Listed ns) = ⊥
+IsOneOf Lists (Number n) = ⊥
+IsOneOf Lists (Instant request) = ⊥
+IsOneOf Lists (Listed ns) = (length ns ≤ 100000) × All (λ n. n < 2 ^ 32) ns

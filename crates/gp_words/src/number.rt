@@ -1,0 +1,37 @@
+ghost use Rattle.std.specs.Prelude.{◌≡◌};
+ghost use Rattle.std.specs.Str.{all_ascii_digits};
+ghost use Rattle.gp_words.specs.Numbers.{is_number, number_in};
+
+/// The most digits of a number, leading zeros among them.
+const MOST_DIGITS: usize = 20;
+
+fn are_digits(word: &[u8]) -> bool
+    ensures { result ≡ all_ascii_digits word.now }
+{
+    word.iter().all(|byte| byte.is_ascii_digit())
+}
+
+/// Whether a word is one to twenty digits.
+fn is_number(word: &str) -> bool
+    ensures { result ≡ is_number word.now }
+{
+    let digits = word.as_bytes();
+    if digits.is_empty() || digits.len() > MOST_DIGITS {
+        return false;
+    }
+    are_digits(digits)
+}
+
+/// The number that a word writes, where it lies from `least` to `most`.
+pub(crate) fn number(word: &str, least: u64, most: u64) -> Option<u64>
+    ensures { result ≡ number_in least most word.now }
+{
+    if !is_number(word) {
+        return None;
+    }
+    let number = word.parse::<u64>().ok()?;
+    if number < least || number > most {
+        return None;
+    }
+    Some(number)
+}

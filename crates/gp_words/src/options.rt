@@ -1,0 +1,107 @@
+ghost use Rattle.std.specs.Prelude.{◌≡◌, [], IfOk, string_bytes};
+ghost use Rattle.std.specs.Option.{option_map};
+ghost use Rattle.gp_words.specs.Words.{texts};
+ghost use Rattle.gp_words.specs.Read.{Reads};
+ghost use Rattle.gp_words.specs.declared.setting.Values.TheVariants.{Instants};
+ghost use Rattle.gp_words.specs.Options.{value_of, times, choice_of, options_of, IsSound};
+
+use crate::cause::{BAD_NUMBER, MISSING, TWICE, UNKNOWN_OPTION};
+use crate::choice::{Choice, Choices, Value};
+use crate::error::WordError;
+use crate::number::number;
+use crate::picks::picks;
+use crate::setting::{Setting, Values};
+use gp_isa::Memory;
+use gp_machine::Request;
+use std::alloc::Global;
+
+/// The instant of a word: a clock, or `end`.
+fn instant(word: &str) -> Option<Value>
+    ensures { result ≡ value_of Instants word.now }
+{
+    if word == "end" {
+        return Some(Value::Instant {
+            request: Request::End,
+        });
+    }
+    let clock = number(word, 0, 1 << 40)?;
+    Some(Value::Instant {
+        request: Request::Clock { clock },
+    })
+}
+
+/// The value of a word, where it's one of some values.
+fn value(alloc: Global, values: Values, word: &str) -> Result<Option<Value>, Memory>
+    ensures { IfOk result (λ value. value ≡ value_of values word.now) }
+{
+    match values {
+        Values::Numbers { least, most } => {
+            Ok(number(word, least, most).map(|number| Value::Number { number }))
+        }
+        Values::Instants => Ok(instant(word)),
+        Values::Lists => Ok(picks(alloc, word)?.map(|picks| Value::List { picks })),
+    }
+}
+
+/// How often a setting was chosen.
+fn times(taken: &[Choice], setting: Setting) -> usize
+    ensures { result ≡ times setting taken.now }
+{
+    taken
+        .iter()
+        .filter(|choice| choice.setting.is(setting))
+        .count()
+}
+
+/// The option of a word and the word behind it, where there is one, behind the options taken before.
+fn choice(
+    alloc: Global,
+    taken: &[Choice],
+    word: &str,
+    value_word: Option<&String>,
+) -> Result<Choice, WordError>
+    requires { IsSound taken.now }
+    ensures { Reads result (choice_of taken.now word.now (option_map (λ w. string_bytes w.now) value_word.entry)) }
+{
+    let place = 2 + 2 * taken.len() as u32;
+    let Some(setting) = Setting::named(word) else {
+        return Err(WordError::Usage {
+            place,
+            cause: UNKNOWN_OPTION,
+        });
+    };
+    if times(taken, setting) >= setting.most_times() {
+        return Err(WordError::Usage {
+            place,
+            cause: TWICE,
+        });
+    }
+    let Some(value_word) = value_word else {
+        return Err(WordError::Usage {
+            place: place + 1,
+            cause: MISSING,
+        });
+    };
+    match value(alloc, setting.values(), value_word.as_str())? {
+        Some(value) => Ok(Choice { setting, value }),
+        None => Err(WordError::Usage {
+            place: place + 1,
+            cause: BAD_NUMBER,
+        }),
+    }
+}
+
+/// The options of words, two words each, the first of which is at place 2.
+pub(crate) fn options(alloc: Global, words: &[String]) -> Result<Choices, WordError>
+    ensures options { Reads result (options_of [] (texts words.now)) }
+    ensures sound { IfOk result IsSound }
+{
+    let mut taken = Choices::new(alloc);
+    let mut rest = words.iter();
+    while let Some(word) = rest.next() {
+        let value_word = rest.next();
+        let choice = choice(alloc, taken.as_slice(), word.as_str(), value_word)?;
+        taken.push(choice)?;
+    }
+    Ok(taken)
+}
