@@ -1,0 +1,5 @@
+pub mod FirstNeed
+pub mod Shown
+pub mod Samples
+pub mod Numbers
+pub mod Profile

@@ -1,0 +1,6 @@
+//! Profiles from records.
+#![tactic(auto)]
+
+mod goroutine;
+
+pub use goroutine::goroutine_profile;
