@@ -2,4 +2,5 @@ pub mod FirstNeed
 pub mod Shown
 pub mod Samples
 pub mod Numbers
+pub mod Alike
 pub mod Profile

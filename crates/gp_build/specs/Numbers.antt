@@ -7,7 +7,7 @@ use Rattle.gp_isa.specs.declared.parts.Parts.{Parts}
 use Rattle.gp_isa.specs.declared.parts.Pair.{Pair}
 use Rattle.gp_build.specs.FirstNeed.{first_seen, place_in}
 use Rattle.gp_build.specs.Shown.{same_frame, function_of}
-use Rattle.gp_build.specs.Samples.{Counted}
+use Rattle.gp_build.specs.declared.samples.Counted.{Counted}
 
 -- What stands in the string table. An empty value of a label isn't the empty text, whose number says that there
 -- is no text, but stands for itself.

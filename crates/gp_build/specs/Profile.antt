@@ -11,7 +11,8 @@ use Rattle.gp_wire.specs.declared.profile.Profile.{Profile}
 use Rattle.gp_wire.specs.declared.profile.Sample.{Sample}
 use Rattle.gp_wire.specs.declared.profile.ValueType.{ValueType}
 use Rattle.gp_build.specs.Shown.{function_of}
-use Rattle.gp_build.specs.Samples.{Counted, samples_of}
+use Rattle.gp_build.specs.declared.samples.Counted.{Counted}
+use Rattle.gp_build.specs.Samples.{samples_of}
 use Rattle.gp_build.specs.Numbers.{Need, text, value_need, text_of, string_table, location_table, function_table, string_number, location_id, function_id}
 
 -- goroutines, counted

@@ -4,13 +4,9 @@ use Rattle.std.specs.Ordering.{nat_cmp, ordering_then, is_lt}
 use Rattle.std.specs.declared.cmp.Ordering.{Ordering}
 use Rattle.gp_isa.specs.declared.parts.Parts.{Parts}
 use Rattle.gp_stack.specs.declared.record.Record.{Record}
+use Rattle.gp_build.specs.declared.samples.Counted.{Counted}
 use Rattle.gp_build.specs.FirstNeed.{first_seen}
 use Rattle.gp_build.specs.Shown.{Shown, shown_in, same_shown, shown_cmp}
-
--- what is shown, and how many records show it
-pub record Counted : Type 0 where
-  pub shown : Shown
-  pub count : ℕ
 
 -- each of a list once, with how often it stands there
 unfoldable pub counted : List Shown → List Counted

@@ -12,11 +12,6 @@ use Rattle.gp_isa.specs.declared.parts.LabelSet.{LabelSet}
 use Rattle.gp_isa.specs.declared.parts.Pair.{Pair}
 use Rattle.gp_stack.specs.declared.record.Record.{Record}
 
--- The functions and the label set of a record are there.
-pub record IsRecordOf (parts : Parts) (row : Record) : Type 0 where
-  pub functions : All (λ (frame : Frame). frame.function < length parts.functions) row.stack
-  pub set : row.set ≤ length parts.labels
-
 -- a stack, the leaf first, and labels
 pub record Shown : Type 0 where
   pub stack : List Frame
