@@ -1,9 +1,7 @@
 -- The tests of equality are equivalences, and equal keys are hashed alike.
-use Rattle.std.specs.Prelude.{◌≡◌, ◌==◌, ◌&&◌, ◌++◌, ℕ, Bool, true, false, List, [], ◌∷◌, nat_eq}
-use Rattle.std.specs.Str.{bytes_eq}
-use Rattle.std.specs.Bool.{Decides}
+use Rattle.std.specs.Prelude.{◌≡◌, ◌++◌, ℕ, true, List}
 use Rattle.std.specs.Cmp.{IsEquivalence, and_equiv, on_equiv, nat_eq_equiv}
-use Rattle.std.specs.Cmp.Lexicographic.{pointwise, bytes_decides, lists_equiv, nat_list_eq_equiv}
+use Rattle.std.specs.Cmp.Lexicographic.{bytes_decides, lists_equiv, nat_list_eq_equiv}
 use Rattle.std.proofs.lemmas.Bool.Decides.{Decides-eqb}
 use Rattle.std.proofs.Common.{refl, sym, true≢false, ap}
 use Rattle.gp_isa.specs.declared.frame.Frame.{Frame}
@@ -36,8 +34,8 @@ same_pair_equiv = and_equiv (on_equiv (λ (pair : Pair). pair.key) nat_list_eq_e
 pub same_shown_equiv : IsEquivalence same_shown
 same_shown_equiv =
     and_equiv
-      (on_equiv (λ (shown : Shown). shown.stack) (lists_equiv same_frame_equiv))
-      (on_equiv (λ (shown : Shown). shown.labels) (lists_equiv same_pair_equiv))
+    (on_equiv (λ (shown : Shown). shown.stack) (lists_equiv same_frame_equiv))
+    (on_equiv (λ (shown : Shown). shown.labels) (lists_equiv same_pair_equiv))
 
 itself : (need : Need) → same_need need need ≡ true
 itself (text a) = nat_list_eq_equiv.refl a

@@ -1,5 +1,5 @@
 -- The numbers of texts, functions and locations, each in the order of first need.
-use Rattle.std.specs.Prelude.{ℕ, ℤ, pos, suc, nat_eq, Bool, true, false, List, [], ◌∷◌, ◌++◌, map, codes}
+use Rattle.std.specs.Prelude.{ℕ, ℤ, pos, ◌+◌, nat_eq, Bool, true, false, List, [], ◌∷◌, ◌++◌, map, codes}
 use Rattle.std.specs.List.{flat_map}
 use Rattle.std.specs.Str.{bytes_eq}
 use Rattle.gp_isa.specs.declared.frame.Frame.{Frame}
@@ -72,7 +72,7 @@ string_number strings need = pos (place_in same_need strings need)
 
 -- Ids are counted from 1.
 abbrev pub location_id : List Frame → Frame → ℕ
-location_id locations frame = suc (place_in same_frame locations frame)
+location_id locations frame = place_in same_frame locations frame + 1
 
 abbrev pub function_id : List ℕ → ℕ → ℕ
-function_id functions f = suc (place_in nat_eq functions f)
+function_id functions f = place_in nat_eq functions f + 1

@@ -8,6 +8,10 @@ use Rattle.gp_build.specs.declared.samples.Counted.{Counted}
 use Rattle.gp_build.specs.FirstNeed.{first_seen}
 use Rattle.gp_build.specs.Shown.{Shown, shown_in, same_shown, shown_cmp}
 
+-- a stack with labels and its count
+abbrev pub entry_of : Shown × ℕ → Counted
+entry_of entry = record { shown = entry.0; count = entry.1 }
+
 -- each of a list once, with how often it stands there
 unfoldable pub counted : List Shown → List Counted
 counted all = map (λ shown. record { shown = shown; count = count_by (same_shown shown) all }) (first_seen same_shown all)

@@ -39,10 +39,10 @@ fn compare_pairs(a: &Pair, b: &Pair) -> Ordering
 fn compare_stacks(parts: &Parts, a: &[Frame], b: &[Frame]) -> Ordering
     ensures { result ≡ slice_cmp (frame_cmp parts.now) a.now b.now }
 {
-    for (a, b) in a.iter().zip(b) {
-        let order = compare_frames(parts, *a, *b);
-        if order != Ordering::Equal {
-            return order;
+    for (x, y) in a.iter().zip(b) {
+        match compare_frames(parts, *x, *y) {
+            Ordering::Equal => {}
+            order => return order,
         }
     }
     a.len().cmp(&b.len())
@@ -51,10 +51,10 @@ fn compare_stacks(parts: &Parts, a: &[Frame], b: &[Frame]) -> Ordering
 fn compare_labels(a: &[Pair], b: &[Pair]) -> Ordering
     ensures { result ≡ slice_cmp pair_cmp a.now b.now }
 {
-    for (a, b) in a.iter().zip(b) {
-        let order = compare_pairs(a, b);
-        if order != Ordering::Equal {
-            return order;
+    for (x, y) in a.iter().zip(b) {
+        match compare_pairs(x, y) {
+            Ordering::Equal => {}
+            order => return order,
         }
     }
     a.len().cmp(&b.len())

@@ -1,4 +1,9 @@
-ghost use Rattle.std.specs.Prelude.{◌≡◌, ◌∷◌, [], IfOk};
+ghost use Rattle.std.specs.Prelude.{◌≡◌, ◌∷◌, [], ◌<◌, ◌^◌, All, map, IfOk};
+ghost use Rattle.gp_build.specs.declared.samples.Counted.{Counted};
+ghost use Rattle.gp_build.specs.Shown.{function_of};
+ghost use Rattle.gp_build.specs.Numbers as numbers;
+ghost use Rattle.gp_build.specs.Numbers.{string_number, text_of};
+ghost use Rattle.gp_build.specs.Profile.{kind_of, label_of, sample_of, location_of, function_in};
 
 use crate::compare::name;
 use crate::need::Need;
@@ -21,22 +26,28 @@ pub(crate) fn one<T: Drop>(alloc: Global, item: T) -> Result<Sequence<T>, Memory
     Ok(items)
 }
 
-fn number<'a>(strings: &IndexSet<Need<'a>>, need: Need<'a>) -> i64 {
-    place(strings, &need) as i64
+fn number<'a>(strings: &IndexSet<Need<'a>>, need: &Need<'a>) -> i64
+    ensures { result ≡ string_number strings.now.keys need.now }
+{
+    place(strings, need) as i64
 }
 
 /// Goroutines, counted.
-pub(crate) fn kind(strings: &IndexSet<Need>) -> ValueType {
+pub(crate) fn kind(strings: &IndexSet<Need>) -> ValueType
+    ensures { result ≡ kind_of strings.now.keys }
+{
     ValueType {
-        kind: number(strings, Need::text("goroutine")),
-        unit: number(strings, Need::text("count")),
+        kind: number(strings, &Need::text("goroutine")),
+        unit: number(strings, &Need::text("count")),
     }
 }
 
-fn label<'a>(strings: &IndexSet<Need<'a>>, pair: &'a Pair) -> Label {
+fn label<'a>(strings: &IndexSet<Need<'a>>, pair: &'a Pair) -> Label
+    ensures { result ≡ label_of strings.now.keys pair.now }
+{
     Label {
-        key: number(strings, Need::text(pair.key.as_str())),
-        text: number(strings, Need::value(pair.value.as_str())),
+        key: number(strings, &Need::text(pair.key.as_str())),
+        text: number(strings, &Need::value(pair.value.as_str())),
         num: 0,
         num_unit: 0,
     }
@@ -46,7 +57,9 @@ fn labels<'a>(
     alloc: Global,
     strings: &IndexSet<Need<'a>>,
     pairs: &'a [Pair],
-) -> Result<Labels, Memory> {
+) -> Result<Labels, Memory>
+    ensures { IfOk result (λ labels. labels ≡ map (label_of strings.now.keys) pairs.now) }
+{
     let mut labels = Sequence::new(alloc);
     for pair in pairs {
         labels.push(label(strings, pair))?;
@@ -54,11 +67,15 @@ fn labels<'a>(
     Ok(labels)
 }
 
-fn location_id(locations: &IndexSet<Place>, at: &Place) -> u64 {
+fn location_id(locations: &IndexSet<Place>, at: &Place) -> u64
+    ensures { result ≡ numbers.location_id locations.now.keys at.now }
+{
     place(locations, at) as u64 + 1
 }
 
-fn function_id(functions: &IndexSet<u32>, f: u32) -> u64 {
+fn function_id(functions: &IndexSet<u32>, f: u32) -> u64
+    ensures { result ≡ numbers.function_id functions.now.keys f }
+{
     place(functions, &f) as u64 + 1
 }
 
@@ -66,7 +83,9 @@ fn location_ids(
     alloc: Global,
     locations: &IndexSet<Place>,
     stack: &[gp_isa::Frame],
-) -> Result<Words, Memory> {
+) -> Result<Words, Memory>
+    ensures { IfOk result (λ ids. ids ≡ map (numbers.location_id locations.now.keys) stack.now) }
+{
     let mut ids = Sequence::new(alloc);
     for frame in stack {
         ids.push(location_id(locations, &Place::new(*frame)))?;
@@ -79,7 +98,10 @@ fn sample<'a>(
     strings: &IndexSet<Need<'a>>,
     locations: &IndexSet<Place>,
     counted: &Counted<'a>,
-) -> Result<Sample, Memory> {
+) -> Result<Sample, Memory>
+    requires { counted.now.count < 2 ^ 63 }
+    ensures { IfOk result (λ sample. sample ≡ sample_of strings.now.keys locations.now.keys counted.now) }
+{
     Ok(Sample {
         location_ids: location_ids(alloc, locations, counted.shown.stack())?,
         values: one(alloc, counted.count as i64)?,
@@ -92,10 +114,13 @@ pub(crate) fn samples<'a>(
     strings: &IndexSet<Need<'a>>,
     locations: &IndexSet<Place>,
     counted: &[Counted<'a>],
-) -> Result<Samples, Memory> {
+) -> Result<Samples, Memory>
+    requires { All (λ (sample : Counted). sample.count < 2 ^ 63) counted.now }
+    ensures { IfOk result (λ samples. samples ≡ map (sample_of strings.now.keys locations.now.keys) counted.now) }
+{
     let mut samples = Sequence::new(alloc);
-    for counted in counted {
-        samples.push(sample(alloc, strings, locations, counted)?)?;
+    for group in counted {
+        samples.push(sample(alloc, strings, locations, group)?)?;
     }
     Ok(samples)
 }
@@ -105,7 +130,9 @@ fn location(
     locations: &IndexSet<Place>,
     functions: &IndexSet<u32>,
     at: &Place,
-) -> Result<Location, Memory> {
+) -> Result<Location, Memory>
+    ensures { IfOk result (λ location. location ≡ location_of locations.now.keys functions.now.keys at.now) }
+{
     let frame = at.frame();
     let line = Line {
         function_id: function_id(functions, frame.function),
@@ -121,16 +148,20 @@ pub(crate) fn locations(
     alloc: Global,
     table: &IndexSet<Place>,
     functions: &IndexSet<u32>,
-) -> Result<Locations, Memory> {
+) -> Result<Locations, Memory>
+    ensures { IfOk result (λ locations. locations ≡ map (location_of table.now.keys functions.now.keys) table.now.keys) }
+{
     let mut locations = Sequence::new(alloc);
-    for at in table {
+    for at in table.as_slice() {
         locations.push(location(alloc, table, functions, at)?)?;
     }
     Ok(locations)
 }
 
 // The line of a function's header.
-fn header(parts: &Parts, f: u32) -> u32 {
+fn header(parts: &Parts, f: u32) -> u32
+    ensures { result ≡ (function_of parts.now f).line }
+{
     match parts.functions.get(f as usize) {
         Some(function) => function.line,
         None => 0,
@@ -143,13 +174,15 @@ fn function<'a>(
     strings: &IndexSet<Need<'a>>,
     functions: &IndexSet<u32>,
     f: u32,
-) -> Function {
-    let name = number(strings, Need::text(name(parts, f)));
+) -> Function
+    ensures { result ≡ function_in parts.now file.now strings.now.keys functions.now.keys f }
+{
+    let name = number(strings, &Need::text(name(parts, f)));
     Function {
         id: function_id(functions, f),
         name,
         system_name: name,
-        filename: number(strings, Need::text(file)),
+        filename: number(strings, &Need::text(file)),
         start_line: i64::from(header(parts, f)),
     }
 }
@@ -160,17 +193,21 @@ pub(crate) fn functions<'a>(
     file: &'a str,
     strings: &IndexSet<Need<'a>>,
     table: &IndexSet<u32>,
-) -> Result<Functions, Memory> {
+) -> Result<Functions, Memory>
+    ensures { IfOk result (λ functions. functions ≡ map (function_in parts.now file.now strings.now.keys table.now.keys) table.now.keys) }
+{
     let mut functions = Sequence::new(alloc);
-    for f in table {
+    for f in table.as_slice() {
         functions.push(function(parts, file, strings, table, *f))?;
     }
     Ok(functions)
 }
 
-pub(crate) fn strings(alloc: Global, table: &IndexSet<Need>) -> Result<Strings, Memory> {
+pub(crate) fn strings(alloc: Global, table: &IndexSet<Need>) -> Result<Strings, Memory>
+    ensures { IfOk result (λ strings. strings ≡ map text_of table.now.keys) }
+{
     let mut strings = Sequence::new(alloc);
-    for need in table {
+    for need in table.as_slice() {
         strings.push(Text::from_str(alloc, need.as_str())?)?;
     }
     Ok(strings)

@@ -71,7 +71,15 @@ fn is_same_pair(a: &Pair, b: &Pair) -> bool
 fn are_same_pairs(a: &[Pair], b: &[Pair]) -> bool
     ensures { result ≡ pointwise same_pair a.now b.now }
 {
-    a.len() == b.len() && a.iter().zip(b).all(|(a, b)| is_same_pair(a, b))
+    if a.len() != b.len() {
+        return false;
+    }
+    for (x, y) in a.iter().zip(b) {
+        if !is_same_pair(x, y) {
+            return false;
+        }
+    }
+    true
 }
 
 fn hash_frames<H: Hasher>(stack: &[Frame], state: &mut H)

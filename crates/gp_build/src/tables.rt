@@ -1,5 +1,10 @@
-ghost use Rattle.std.specs.Prelude.{◌≡◌, ◌<◌, ◌^◌, map, OnOk, IfOk};
+ghost use Rattle.std.specs.Prelude.{◌≡◌, ◌<◌, ◌^◌, map, nat_eq, OnOk, IfOk};
+ghost use Rattle.std.specs.List.{flat_map};
+ghost use Rattle.indexmap.specs.IndexSet.{insert_all};
+ghost use Rattle.gp_isa.specs.declared.frame.Frame.{Frame};
 ghost use Rattle.gp_build.specs.FirstNeed.{place_in};
+ghost use Rattle.gp_build.specs.Shown.{same_frame};
+ghost use Rattle.gp_build.specs.Numbers.{same_need, frame_needs, label_needs, string_table, location_table, function_table};
 
 use crate::compare::name;
 use crate::need::Need;
@@ -16,6 +21,7 @@ fn need_frames<'a>(
     file: &'a str,
     stack: &[Frame],
 ) -> Result<(), Memory>
+    ensures { OnOk result (strings.new.keys ≡ insert_all same_need strings.old.keys (flat_map (frame_needs parts.now file.now) stack.now)) }
 {
     for frame in stack {
         strings.insert(Need::text(name(parts, frame.function)))?;
@@ -25,6 +31,7 @@ fn need_frames<'a>(
 }
 
 fn need_labels<'a>(strings: &mut IndexSet<Need<'a>>, labels: &'a [Pair]) -> Result<(), Memory>
+    ensures { OnOk result (strings.new.keys ≡ insert_all same_need strings.old.keys (flat_map label_needs labels.now)) }
 {
     for pair in labels {
         strings.insert(Need::text(pair.key.as_str()))?;
@@ -34,12 +41,13 @@ fn need_labels<'a>(strings: &mut IndexSet<Need<'a>>, labels: &'a [Pair]) -> Resu
 }
 
 /// The string table.
-pub(crate) fn string_table<'a>(
+pub(crate) fn strings<'a>(
     alloc: Global,
     parts: &'a Parts,
     file: &'a str,
     samples: &[Counted<'a>],
 ) -> Result<IndexSet<Need<'a>>, Memory>
+    ensures { IfOk result (λ strings. strings.keys ≡ string_table parts.now file.now samples.now) }
 {
     let mut strings = IndexSet::new(alloc);
     strings.insert(Need::text(""))?;
@@ -53,6 +61,7 @@ pub(crate) fn string_table<'a>(
 }
 
 fn need_places(places: &mut IndexSet<Place>, stack: &[Frame]) -> Result<(), Memory>
+    ensures { OnOk result (places.new.keys ≡ insert_all same_frame places.old.keys stack.now) }
 {
     for frame in stack {
         places.insert(Place::new(*frame))?;
@@ -61,10 +70,8 @@ fn need_places(places: &mut IndexSet<Place>, stack: &[Frame]) -> Result<(), Memo
 }
 
 /// The lines that frames stand at.
-pub(crate) fn location_table(
-    alloc: Global,
-    samples: &[Counted],
-) -> Result<IndexSet<Place>, Memory>
+pub(crate) fn locations(alloc: Global, samples: &[Counted]) -> Result<IndexSet<Place>, Memory>
+    ensures { IfOk result (λ places. places.keys ≡ location_table samples.now) }
 {
     let mut places = IndexSet::new(alloc);
     for sample in samples {
@@ -74,6 +81,7 @@ pub(crate) fn location_table(
 }
 
 fn need_functions(functions: &mut IndexSet<u32>, stack: &[Frame]) -> Result<(), Memory>
+    ensures { OnOk result (functions.new.keys ≡ insert_all nat_eq functions.old.keys (map (λ (frame : Frame). frame.function) stack.now)) }
 {
     for frame in stack {
         functions.insert(frame.function)?;
@@ -82,7 +90,8 @@ fn need_functions(functions: &mut IndexSet<u32>, stack: &[Frame]) -> Result<(), 
 }
 
 /// The functions that frames stand in, by number.
-pub(crate) fn function_table(alloc: Global, samples: &[Counted]) -> Result<IndexSet<u32>, Memory>
+pub(crate) fn functions(alloc: Global, samples: &[Counted]) -> Result<IndexSet<u32>, Memory>
+    ensures { IfOk result (λ functions. functions.keys ≡ function_table samples.now) }
 {
     let mut functions = IndexSet::new(alloc);
     for sample in samples {

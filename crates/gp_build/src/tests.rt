@@ -92,12 +92,7 @@ fn records(alloc: Global, rows: &[Row]) -> Result<Records, Memory> {
 }
 
 // The profile of records in a program of the file `a.gp`.
-fn profile(
-    alloc: Global,
-    headers: &[Header],
-    sets: &[Set],
-    rows: &[Row],
-) -> Option<Profile> {
+fn profile(alloc: Global, headers: &[Header], sets: &[Set], rows: &[Row]) -> Option<Profile> {
     let program = program(alloc, headers, sets)?;
     let records = records(alloc, rows).ok()?;
     goroutine_profile(alloc, &program, "a.gp", &records).ok()
@@ -175,7 +170,11 @@ fn records_of_one_stack_are_counted(rt: HostRuntime) -> Result<(), Fail> {
 #[test]
 fn labels_split_samples(rt: HostRuntime) -> Result<(), Fail> {
     let headers = [("main", 4), ("f", 12)];
-    let sets = [("red", "team", "red"), ("blue", "team", "blue"), ("none", "team", "")];
+    let sets = [
+        ("red", "team", "red"),
+        ("blue", "team", "blue"),
+        ("none", "team", ""),
+    ];
     let rows: [Row; 5] = [
         (&[(0, 10)], 2),
         (&[(1, 13)], 1),
@@ -191,7 +190,18 @@ fn labels_split_samples(rt: HostRuntime) -> Result<(), Fail> {
         (&[3], 1, &[(5, 7)]),
     ];
     assert!(rt; has_samples(&profile, &samples));
-    let strings = ["", "goroutine", "count", "f", "a.gp", "team", "red", "blue", "main", ""];
+    let strings = [
+        "",
+        "goroutine",
+        "count",
+        "f",
+        "a.gp",
+        "team",
+        "red",
+        "blue",
+        "main",
+        "",
+    ];
     assert!(rt; has_strings(&profile, &strings));
     Ok(())
 }
