@@ -1,0 +1,9 @@
+pub mod FirstSeen
+pub mod Tally
+pub mod Order
+pub mod Comparing
+pub mod Counts
+pub mod StringTable
+pub mod Steps
+pub mod Total
+pub mod Assembly

@@ -1,0 +1,7 @@
+use Rattle.std.proofs.Common.{◌≡◌, take, map}
+use Rattle.gp_build.specs.Numbers.{text_of}
+use Rattle.gp_build.proofs.messages.strings.Given as goal
+
+abbrev pub invariant-loop-need : goal.invariant-loop-need
+invariant-loop-need l =
+    l.strings ≡ map text_of (take l.need-index l.need-items)

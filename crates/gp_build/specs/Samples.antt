@@ -1,0 +1,36 @@
+-- The samples of records: one for each stack with labels that records show, its value the number of those records.
+use Rattle.std.specs.Prelude.{ℕ, Bool, List, [], ◌∷◌, map, count_by, if◌then◌else◌}
+use Rattle.std.specs.Ordering.{nat_cmp, ordering_then, is_lt}
+use Rattle.std.specs.declared.cmp.Ordering.{Ordering}
+use Rattle.gp_isa.specs.declared.parts.Parts.{Parts}
+use Rattle.gp_stack.specs.declared.record.Record.{Record}
+use Rattle.gp_build.specs.declared.samples.Counted.{Counted}
+use Rattle.gp_build.specs.FirstNeed.{first_seen}
+use Rattle.gp_build.specs.Shown.{Shown, shown_in, same_shown, shown_cmp}
+
+-- a stack with labels and its count
+abbrev pub entry_of : Shown × ℕ → Counted
+entry_of entry = record { shown = entry.0; count = entry.1 }
+
+-- each of a list once, with how often it stands there
+unfoldable pub counted : List Shown → List Counted
+counted all = map (λ shown. record { shown = shown; count = count_by (same_shown shown) all }) (first_seen same_shown all)
+
+-- falling count, then stack, then labels
+abbrev pub counted_cmp : Parts → Counted → Counted → Ordering
+counted_cmp parts a b = ordering_then (nat_cmp b.count a.count) (shown_cmp parts a.shown b.shown)
+
+module _ {X : Type 0} (before : X → X → Bool) where
+  -- a list in order with one thing more, which stands in front of the first that isn't before it
+  unfoldable pub put : X → List X → List X
+  put x [] = x ∷ []
+  put x (y ∷ ys) = if before y x then y ∷ put x ys else x ∷ y ∷ ys
+
+  -- the list in order
+  unfoldable pub in_order : List X → List X
+  in_order [] = []
+  in_order (x ∷ xs) = put x (in_order xs)
+
+-- the samples of records, in their order
+unfoldable pub samples_of : Parts → List Record → List Counted
+samples_of parts rows = in_order (λ a b. is_lt (counted_cmp parts a b)) (counted (map (shown_in parts) rows))
