@@ -1,7 +1,7 @@
 -- The first fault of a file: what its lines say is tested line by line for what may stand there, and then line by
 -- line for names that nobody declares.
-use Rattle.std.specs.Prelude.{ℕ, ◌+◌, Bool, true, false, not, ◌||◌, ◌&&◌, if◌then◌else◌, nat_le, List, [], ◌∷◌, ◌++◌, length, Option, Some, None, is_some, position, fold}
-use Rattle.std.specs.List.{flat_map}
+use Rattle.std.specs.Prelude.{ℕ, ◌+◌, Bool, true, false, not, ◌||◌, ◌&&◌, ◌==◌, if◌then◌else◌, nat_le, List, [], ◌∷◌, ◌++◌, length, Option, Some, None, position, fold}
+use Rattle.std.specs.List.{flat_map, list_any}
 use Rattle.std.specs.Str.{bytes_eq}
 use Rattle.gp_text.specs.declared.cause.Cause.{Cause}
 use Rattle.gp_text.specs.declared.cause.Cause.TheVariants.{BadLine, UnknownName, Twice, OutOfRange, NotClosed, NotUtf8 as NoText}
@@ -33,7 +33,7 @@ abbrev pub names : Space → List Said → List (List ℕ)
 names space said = flat_map (declared_in space) said
 
 abbrev pub is_among : List ℕ → List (List ℕ) → Bool
-is_among name others = is_some (position (bytes_eq name) others)
+is_among name others = list_any (bytes_eq name) others
 
 -- Whether the next line stands inside a function: a header opens it, and a brace closes it.
 abbrev pub inside_after : Bool → Said → Bool
@@ -93,14 +93,10 @@ pub record Refusal : Type 0 where
   pub line : ℕ
   pub cause : Cause
 
-abbrev pub is_last : List Said → Bool
-is_last [] = true
-is_last (s ∷ after) = false
-
 -- The first fault that a line has behind the ones before it; where none has one, the end may stand inside a function.
 unfoldable pub first_fault : List Said → List Said → Option Refusal
 first_fault before [] = if is_inside before then Some (record { line = length before; cause = NotClosed }) else None
-first_fault before (s ∷ after) = elim (fault (is_inside before) (known_of before) (is_last after) s) as (λ _. Option Refusal) [
+first_fault before (s ∷ after) = elim (fault (is_inside before) (known_of before) (length after == 0) s) as (λ _. Option Refusal) [
   | Some cause ↦ Some (record { line = length before + 1; cause = cause })
   | None ↦ first_fault (before ++ s ∷ []) after
 ]

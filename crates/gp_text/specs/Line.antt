@@ -1,8 +1,8 @@
 -- The lines of a program file, and what a line says.
 use Rattle.std.specs.Prelude.{◌≡◌, refl, ℕ, Bool, true, false, not, ◌||◌, ◌&&◌, ◌==◌, if◌then◌else◌, nat_le, List, [], ◌∷◌, length, Option, Some, None, slice_index, codes}
 use Rattle.std.specs.List.{list_all, before_first, after_first}
-use Rattle.std.specs.Char.{is_ascii_alphabetic, is_ascii_alphanumeric}
-use Rattle.std.specs.Str.{bytes_eq, is_utf8, all_ascii_digits}
+use Rattle.std.specs.Char.{is_ascii_digit, is_ascii_alphabetic, is_ascii_alphanumeric}
+use Rattle.std.specs.Str.{bytes_eq, is_utf8}
 use Rattle.std.specs.Str.Parse.{digits_value}
 use Rattle.gp_text.specs.declared.verb.Verb.{Verb}
 use Rattle.gp_text.specs.declared.verb.Verb.TheVariants.{Call, Spawn, Send, Recv, Lock, Unlock}
@@ -14,10 +14,13 @@ abbrev pub with_byte : ℕ → List (List ℕ) → List (List ℕ)
 with_byte b [] = (b ∷ []) ∷ []
 with_byte b (line ∷ lines) = (b ∷ line) ∷ lines
 
+abbrev pub is_lf : ℕ → Bool
+is_lf b = b == 10
+
 -- The file's lines: the pieces between LF bytes, of which an empty last one is no line.
 abbrev pub lines_of : List ℕ → List (List ℕ)
 lines_of [] = []
-lines_of (b ∷ bytes) = if b == 10 then [] ∷ lines_of bytes else with_byte b (lines_of bytes)
+lines_of (b ∷ bytes) = if is_lf b then [] ∷ lines_of bytes else with_byte b (lines_of bytes)
 
 -- The last LF may be missing. A second one makes an empty line.
 ended : lines_of (codes "work 1\n") ≡ codes "work 1" ∷ []
@@ -28,10 +31,6 @@ not_ended = refl
 
 ended_twice : lines_of (codes "}\n\n") ≡ codes "}" ∷ [] ∷ []
 ended_twice = refl
-
-abbrev pub is_nil : List ℕ → Bool
-is_nil [] = true
-is_nil (b ∷ bytes) = false
 
 abbrev pub is_blank : ℕ → Bool
 is_blank b = b == 32
@@ -50,13 +49,21 @@ begins_name b = is_ascii_alphabetic b || b == 95
 abbrev pub continues_name : ℕ → Bool
 continues_name b = is_ascii_alphanumeric b || (b == 95 || b == 46)
 
+-- at least one byte, and at most so many
+abbrev pub has_length : ℕ → List ℕ → Bool
+has_length most bytes = nat_le 1 (length bytes) && nat_le (length bytes) most
+
 -- A name has at most 64 bytes.
 unfoldable pub is_name : List ℕ → Bool
-is_name name = nat_le 1 (length name) && (begins_name (slice_index name 0) && (nat_le (length name) 64 && list_all continues_name name))
+is_name name = has_length 64 name && (begins_name (slice_index name 0) && list_all continues_name name)
 
--- A number is written with one to twenty digits, and no 0 in front of another digit.
+-- no 0 in front of another digit
+abbrev pub leads : List ℕ → Bool
+leads digits = length digits == 1 || not (slice_index digits 0 == 48)
+
+-- A number is written with one to twenty digits.
 unfoldable pub is_numeral : List ℕ → Bool
-is_numeral digits = (nat_le 1 (length digits) && nat_le (length digits) 20) && ((length digits == 1 || not (slice_index digits 0 == 48)) && all_ascii_digits digits)
+is_numeral digits = has_length 20 digits && (leads digits && list_all is_ascii_digit digits)
 
 abbrev pub number : List ℕ → Option ℕ
 number digits = if is_numeral digits then Some (digits_value 10 digits) else None
@@ -113,6 +120,6 @@ spoken word rest =
 unfoldable pub said_of : List ℕ → Said
 said_of line =
     if not (is_utf8 line) then NotUtf8 else
-    if is_nil line then Silent else
+    if length line == 0 then Silent else
     if bytes_eq line (codes "}") then Close else
     spoken (head_of line) (rest_of line)

@@ -1,10 +1,9 @@
-ghost use Rattle.std.specs.Prelude.{◌≡◌, ◌<◌, ◌≤◌, ◌+◌, ◌^◌, [], length, drop, true, All, Some, IfOk};
+ghost use Rattle.std.specs.Prelude.{◌≡◌, ◌<◌, ◌≤◌, ◌+◌, ◌^◌, [], length, drop, true, All, IfOk};
 ghost use Rattle.gp_text.specs.Line.{is_name};
-ghost use Rattle.gp_text.specs.Reading.{place_of, action, statement, statement_of, is_close, body_at, end_at, function_of, functions_at, channels_at, mutexes_at, parts_of};
+ghost use Rattle.gp_text.specs.Reading.{place_of, action, statement, statement_of, is_close, body_at, end_at, function_of, channel_of, mutex_of, functions_at, channels_at, mutexes_at, parts_of};
 ghost use Rattle.gp_text.specs.Fault.{known_of};
 ghost use Rattle.gp_text.specs.Spaces.{kept};
-ghost use Rattle.gp_text.specs.declared.said.Said.TheVariants.{Header};
-ghost use Rattle.gp_text.specs.CanBuild.{CanBuild};
+ghost use Rattle.gp_text.specs.CanBuild.{CanBuild, AreFew};
 
 use crate::said::{Name, Said};
 use crate::space::Space;
@@ -29,6 +28,7 @@ fn text(alloc: Global, name: &Name) -> Result<Text, Memory>
 
 // The number of a name, which is known.
 fn place(spaces: &Spaces, verb: Verb, name: &Name) -> u32
+    requires { AreFew (kept spaces.now) }
     ensures { result ≡ place_of (kept spaces.now) verb name.now }
 {
     spaces.of(Space::of(verb)).place(name.bytes()).unwrap_or(0) as u32
@@ -49,7 +49,8 @@ fn what(verb: Verb, at: u32) -> What
 
 // The statement of a line, where it has one.
 fn statement(spaces: &Spaces, line: u32, said: &Said) -> Option<Stmt>
-    requires { CanBuild said.now }
+    requires can { CanBuild said.now }
+    requires few { AreFew (kept spaces.now) }
     ensures { result ≡ statement_of (kept spaces.now) line said.now }
 {
     match said {
@@ -92,14 +93,16 @@ fn body(alloc: Global, spaces: &Spaces, said: &[Said], from: usize) -> Result<St
     requires within { from ≤ length said.now }
     requires short { length said.now < 2 ^ 32 }
     requires can { All CanBuild said.now }
+    requires few { AreFew (kept spaces.now) }
     ensures { IfOk result (λ body. body ≡ body_at (kept spaces.now) (from + 1) (drop from said.now)) }
 {
     let mut body = Items::new(alloc);
     for at in from..said.len() {
-        if is_close(&said[at]) {
+        let line = &said[at];
+        if is_close(line) {
             break;
         }
-        if let Some(statement) = statement(spaces, at as u32 + 1, &said[at]) {
+        if let Some(statement) = statement(spaces, at as u32 + 1, line) {
             body.push(statement)?;
         }
     }
@@ -120,37 +123,92 @@ fn end(said: &[Said], from: usize) -> u32
     0
 }
 
-// The function that a header opens, at a place.
+// The function that a line at a place opens, where it is a header.
 fn function(
     alloc: Global,
     spaces: &Spaces,
     said: &[Said],
     at: usize,
-    name: &Name,
-) -> Result<Function, Memory>
+    line: &Said,
+) -> Result<Option<Function>, Memory>
     requires within { at < length said.now }
     requires short { length said.now < 2 ^ 32 }
     requires can { All CanBuild said.now }
-    requires name { is_name name.now ≡ true }
-    ensures { IfOk result (λ function. function_of (kept spaces.now) (at + 1) (Header name.now) (drop (at + 1) said.now) ≡ Some function) }
+    requires few { AreFew (kept spaces.now) }
+    requires named { CanBuild line.now }
+    ensures { IfOk result (λ function. function ≡ function_of (kept spaces.now) (at + 1) line.now (drop (at + 1) said.now)) }
 {
-    Ok(Function {
-        name: text(alloc, name)?,
-        line: at as u32 + 1,
-        end: end(said, at + 1),
-        body: body(alloc, spaces, said, at + 1)?,
-    })
+    match line {
+        Said::Header { name } => Ok(Some(Function {
+            name: text(alloc, name)?,
+            line: at as u32 + 1,
+            end: end(said, at + 1),
+            body: body(alloc, spaces, said, at + 1)?,
+        })),
+        Said::NotUtf8
+        | Said::Nonsense
+        | Said::Silent
+        | Said::Channel { .. }
+        | Said::Mutex { .. }
+        | Said::Work { .. }
+        | Said::Use { .. }
+        | Said::Close => Ok(None),
+    }
+}
+
+// The channel that a line declares, where it does.
+fn channel(alloc: Global, line: u32, said: &Said) -> Result<Option<ChannelDecl>, Memory>
+    requires { CanBuild said.now }
+    ensures { IfOk result (λ channel. channel ≡ channel_of line said.now) }
+{
+    match said {
+        Said::Channel { name, capacity } => Ok(Some(ChannelDecl {
+            name: text(alloc, name)?,
+            line,
+            capacity: *capacity as u32,
+        })),
+        Said::NotUtf8
+        | Said::Nonsense
+        | Said::Silent
+        | Said::Header { .. }
+        | Said::Mutex { .. }
+        | Said::Work { .. }
+        | Said::Use { .. }
+        | Said::Close => Ok(None),
+    }
+}
+
+// The mutex that a line declares, where it does.
+fn mutex(alloc: Global, line: u32, said: &Said) -> Result<Option<MutexDecl>, Memory>
+    requires { CanBuild said.now }
+    ensures { IfOk result (λ mutex. mutex ≡ mutex_of line said.now) }
+{
+    match said {
+        Said::Mutex { name } => Ok(Some(MutexDecl {
+            name: text(alloc, name)?,
+            line,
+        })),
+        Said::NotUtf8
+        | Said::Nonsense
+        | Said::Silent
+        | Said::Header { .. }
+        | Said::Channel { .. }
+        | Said::Work { .. }
+        | Said::Use { .. }
+        | Said::Close => Ok(None),
+    }
 }
 
 fn functions(alloc: Global, spaces: &Spaces, said: &[Said]) -> Result<Functions, Memory>
     requires short { length said.now < 2 ^ 32 }
     requires can { All CanBuild said.now }
+    requires few { AreFew (kept spaces.now) }
     ensures { IfOk result (λ functions. functions ≡ functions_at (kept spaces.now) 1 said.now) }
 {
     let mut functions = Sequence::new(alloc);
     for (at, line) in said.iter().enumerate() {
-        if let Said::Header { name } = line {
-            functions.push(function(alloc, spaces, said, at, name)?)?;
+        if let Some(function) = function(alloc, spaces, said, at, line)? {
+            functions.push(function)?;
         }
     }
     Ok(functions)
@@ -163,12 +221,8 @@ fn channels(alloc: Global, said: &[Said]) -> Result<Channels, Memory>
 {
     let mut channels = Sequence::new(alloc);
     for (at, line) in said.iter().enumerate() {
-        if let Said::Channel { name, capacity } = line {
-            channels.push(ChannelDecl {
-                name: text(alloc, name)?,
-                line: at as u32 + 1,
-                capacity: *capacity as u32,
-            })?;
+        if let Some(channel) = channel(alloc, at as u32 + 1, line)? {
+            channels.push(channel)?;
         }
     }
     Ok(channels)
@@ -181,11 +235,8 @@ fn mutexes(alloc: Global, said: &[Said]) -> Result<Mutexes, Memory>
 {
     let mut mutexes = Sequence::new(alloc);
     for (at, line) in said.iter().enumerate() {
-        if let Said::Mutex { name } = line {
-            mutexes.push(MutexDecl {
-                name: text(alloc, name)?,
-                line: at as u32 + 1,
-            })?;
+        if let Some(mutex) = mutex(alloc, at as u32 + 1, line)? {
+            mutexes.push(mutex)?;
         }
     }
     Ok(mutexes)

@@ -27,6 +27,7 @@ struct Before<'a> {
 }
 
 // The fault of a line that declares a name.
+#[tactic(auto, unfolding(crate::specs::Fault::declaration_fault))]
 fn declaration_fault(before: &Before, space: Space, name: &[u8], fits: bool) -> Option<Cause>
     ensures { result ≡ declaration_fault before.now.inside (kept before.now.spaces) space name.now fits }
 {
@@ -43,6 +44,7 @@ fn declaration_fault(before: &Before, space: Space, name: &[u8], fits: bool) -> 
 }
 
 // The fault of a line behind these, the last one or not.
+#[tactic(auto, unfolding(crate::specs::Fault::fault))]
 fn fault(before: &Before, said: &Said, last: bool) -> Option<Cause>
     ensures { result ≡ fault before.now.inside (kept before.now.spaces) last said.now }
 {

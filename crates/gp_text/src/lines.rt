@@ -1,6 +1,7 @@
-ghost use Rattle.std.specs.Prelude.{◌≡◌, ◌≤◌, length, map, IfOk};
+ghost use Rattle.std.specs.Prelude.{◌≡◌, ◌≤◌, ◌<◌, ◌+◌, length, take, drop, map, position, IfOk, IfSome};
+ghost use Rattle.std.specs.Str.{is_utf8};
 ghost use Rattle.gp_text.specs.declared.said.Said.{Said};
-ghost use Rattle.gp_text.specs.Line.{lines_of, head_of, rest_of, verb_of, header, channel, mutex, work, use_of, spoken, said_of};
+ghost use Rattle.gp_text.specs.Line.{is_lf, is_blank, lines_of, head_of, rest_of, verb_of, header, channel, mutex, work, use_of, spoken, said_of};
 
 use crate::marks::{is_name, number};
 use crate::said::{Name, Said};
@@ -9,17 +10,43 @@ use gp_isa::Memory;
 use std::alloc::Global;
 use std::str;
 
+// The place of the first blank.
+fn blank_place(bytes: &[u8]) -> Option<usize>
+    ensures place { result ≡ position is_blank bytes.now }
+    ensures within { IfSome result (λ at. at < length bytes.now) }
+{
+    bytes.iter().position(|b| *b == b' ')
+}
+
+// The place of the first LF.
+fn lf_place(bytes: &[u8]) -> Option<usize>
+    ensures place { result ≡ position is_lf bytes.now }
+    ensures within { IfSome result (λ at. at < length bytes.now) }
+{
+    bytes.iter().position(|b| *b == b'\n')
+}
+
+// What stands before a place, and behind it.
+fn cut_at(bytes: &[u8], at: usize) -> (&[u8], &[u8])
+    requires { at < length bytes.now }
+    ensures head { result.0.now ≡ take at bytes.now }
+    ensures rest { result.1.now ≡ drop (at + 1) bytes.now }
+{
+    (&bytes[..at], &bytes[at + 1..])
+}
+
 // What stands before the first blank, and behind it.
 fn cut(bytes: &[u8]) -> (&[u8], &[u8])
     ensures head { result.0.now ≡ head_of bytes.now }
     ensures rest { result.1.now ≡ rest_of bytes.now }
 {
-    match bytes.iter().position(|b| *b == b' ') {
-        Some(at) => (&bytes[..at], &bytes[at + 1..]),
+    match blank_place(bytes) {
+        Some(at) => cut_at(bytes, at),
         None => (bytes, &bytes[bytes.len()..]),
     }
 }
 
+#[tactic(auto, unfolding(crate::specs::Line::verb_of))]
 fn verb(word: &[u8]) -> Option<Verb>
     ensures { result ≡ verb_of word.now }
 {
@@ -41,6 +68,7 @@ fn verb(word: &[u8]) -> Option<Verb>
 }
 
 // What `NAME {` behind `func` says.
+#[tactic(auto, unfolding(crate::specs::Line::header))]
 fn header(rest: &[u8]) -> Said<'_>
     ensures { result ≡ header rest.now }
 {
@@ -55,6 +83,7 @@ fn header(rest: &[u8]) -> Said<'_>
 }
 
 // What `NAME NUM` behind `chan` says.
+#[tactic(auto, unfolding(crate::specs::Line::channel))]
 fn channel(rest: &[u8]) -> Said<'_>
     ensures { result ≡ channel rest.now }
 {
@@ -75,6 +104,7 @@ fn channel(rest: &[u8]) -> Said<'_>
 }
 
 // What `NAME` behind `mutex` says.
+#[tactic(auto, unfolding(crate::specs::Line::mutex))]
 fn mutex(rest: &[u8]) -> Said<'_>
     ensures { result ≡ mutex rest.now }
 {
@@ -88,6 +118,7 @@ fn mutex(rest: &[u8]) -> Said<'_>
 }
 
 // What `NUM` behind `work` says.
+#[tactic(auto, unfolding(crate::specs::Line::work))]
 fn work(rest: &[u8]) -> Said<'_>
     ensures { result ≡ work rest.now }
 {
@@ -117,6 +148,7 @@ fn named<'a>(word: &[u8], rest: &'a [u8]) -> Said<'a>
 }
 
 // What a word and the rest of the line behind a blank say.
+#[tactic(auto, unfolding(crate::specs::Line::spoken))]
 fn spoken<'a>(word: &[u8], rest: &'a [u8]) -> Said<'a>
     ensures { result ≡ spoken word.now rest.now }
 {
@@ -133,10 +165,20 @@ fn spoken<'a>(word: &[u8], rest: &'a [u8]) -> Said<'a>
     }
 }
 
+fn is_text(line: &[u8]) -> bool
+    ensures { result ≡ is_utf8 line.now }
+{
+    match str::from_utf8(line) {
+        Ok(_) => true,
+        Err(_) => false,
+    }
+}
+
+#[tactic(auto, unfolding(crate::specs::Line::said_of))]
 fn said(line: &[u8]) -> Said<'_>
     ensures { result ≡ said_of line.now }
 {
-    if str::from_utf8(line).is_err() {
+    if !is_text(line) {
         return Said::NotUtf8;
     }
     if line.is_empty() {
@@ -156,9 +198,10 @@ pub(crate) fn said_lines(alloc: Global, bytes: &[u8]) -> Result<Vec<Said<'_>>, M
 {
     let mut all = Vec::new(alloc);
     let mut rest = bytes;
-    while let Some(at) = rest.iter().position(|b| *b == b'\n') {
-        all.push(said(&rest[..at]))?;
-        rest = &rest[at + 1..];
+    while let Some(at) = lf_place(rest) {
+        let (line, after) = cut_at(rest, at);
+        all.push(said(line))?;
+        rest = after;
     }
     if !rest.is_empty() {
         all.push(said(rest))?;

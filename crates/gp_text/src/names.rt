@@ -1,5 +1,6 @@
-ghost use Rattle.std.specs.Prelude.{◌≡◌, ◌<◌, ◌^◌, [], length, position, OnOk, IfSome};
+ghost use Rattle.std.specs.Prelude.{◌≡◌, ◌<◌, ◌^◌, [], length, position, is_some, OnOk, IfSome};
 ghost use Rattle.std.specs.Str.{bytes_eq};
+ghost use Rattle.gp_text.specs.Fault.{is_among};
 ghost use Rattle.gp_text.specs.Names.{with_name};
 
 use gp_isa::Memory;
@@ -45,6 +46,7 @@ impl<'a> Names<'a> {
     /// The place of a name, counted from 0.
     pub(crate) fn place(&self, name: &[u8]) -> Option<usize>
         ensures place { result ≡ position (bytes_eq name.now) self.now }
+        ensures known { is_some result ≡ is_among name.now self.now }
         ensures within { IfSome result (λ at. at < length self.now) }
     {
         self.set.get_index_of(name)

@@ -36,6 +36,7 @@ fn at_header(lines: &[u32], function: u32, cause: Cause) -> TextError
 }
 
 // Why parts with headers on these lines are no program.
+#[tactic(auto, unfolding(crate::specs::Reading::checked))]
 fn refusal(lines: &[u32], bad: Bad) -> TextError
     ensures { (parts : Parts) → lines.now ≡ map (λ (f : Function). f.line) parts.functions → IsCause parts bad → IsRefusalOf (checked parts) result }
 {
