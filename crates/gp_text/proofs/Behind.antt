@@ -7,6 +7,7 @@ use Rattle.std.proofs.lemmas.List.{take_more, take_all, drop_all, append-nil, le
 use Rattle.std.proofs.lemmas.List.Concat.{flat_map-append}
 use Rattle.std.proofs.lemmas.List.Sums.{fold-append}
 use Rattle.std.proofs.lemmas.Bool.Decides.{nat_tests}
+use Rattle.gp_text.proofs.Told.{told, told_option}
 use Rattle.gp_text.specs.declared.cause.Cause.{Cause}
 use Rattle.gp_text.specs.declared.cause.Cause.TheVariants.{BadLine, Twice, OutOfRange, NotClosed}
 use Rattle.gp_text.specs.declared.space.Space.{Space}
@@ -17,10 +18,6 @@ use Rattle.gp_text.specs.Fault.{Known, known_of, names, declared_in, is_among, i
 use Rattle.gp_text.specs.Names.{with_name}
 use Rattle.gp_text.specs.Spaces.{with_declared}
 use Rattle.gp_text.proofs.Steps.{opened}
-
-told : (b : Bool) → (b ≡ true) ⊎ (b ≡ false)
-told true = inl refl
-told false = inr refl
 
 -- These lines have no fault, and what is kept is what they said.
 pub record IsBehind (inside : Bool) (known : Known) (at : ℕ) (said : List Said) : Type 0 where
@@ -47,7 +44,7 @@ fresh false known space name true h = elim (told (nat_le (most_names space) (len
 ]
 
 -- What a line without fault declares in a space: a new name, or nothing.
-pub Adds : Known → Space → List (List ℕ) → Type 0
+unfoldable pub Adds : Known → Space → List (List ℕ) → Type 0
 Adds known space added = (added ≡ []) ⊎ ((name : List ℕ) × (added ≡ name ∷ []) × (is_among name (known space) ≡ false) × (nat_le (most_names space) (length (known space)) ≡ false))
 
 pub adds : (inside : Bool) (known : Known) (last : Bool) (s : Said) (space : Space) → fault inside known last s ≡ None → Adds known space (declared_in space s)
@@ -80,6 +77,12 @@ last_is said at within = rw (length-drop (at + 1) said) (grind (arith, nat_tests
 first_found : (before : List Said) (s : Said) (after : List Said) (cause : Cause) → fault (is_inside before) (known_of before) (length after == 0) s ≡ Some cause → first_fault before (s ∷ after) ≡ Some (record { line = length before + 1; cause = cause })
 unfolding first_fault
 first_found before s after cause h = rw (h, first_fault) refl
+
+pub no_fault : (before : List Said) (s : Said) (after : List Said) → first_fault before (s ∷ after) ≡ None → fault (is_inside before) (known_of before) (length after == 0) s ≡ None
+no_fault before s after h = elim (told_option (fault (is_inside before) (known_of before) (length after == 0) s)) [
+  | inl none ↦ none
+  | inr one ↦ let e = first_found before s after one.0 one.1 in absurd cc
+]
 
 pub first_passed : (before : List Said) (s : Said) (after : List Said) → fault (is_inside before) (known_of before) (length after == 0) s ≡ None → first_fault before (s ∷ after) ≡ first_fault (before ++ s ∷ []) after
 unfolding first_fault

@@ -5,12 +5,9 @@ use Rattle.std.specs.List.{position_or_len}
 use Rattle.std.proofs.lemmas.List.{length-drop, append-nil}
 use Rattle.std.proofs.lemmas.Bool.{le-ltb}
 use Rattle.std.proofs.lemmas.Bool.Decides.{nat_tests}
+use Rattle.gp_text.proofs.Told.{told}
 use Rattle.gp_text.specs.declared.said.Said.{Said}
 use Rattle.gp_text.specs.Line.{is_lf, with_byte, lines_of, said_of}
-
-pub told : (b : Bool) → (b ≡ true) ⊎ (b ≡ false)
-told true = inl refl
-told false = inr refl
 
 -- the place of the first one that passes, where there is one
 position_some : (p : ℕ → Bool) (xs : List ℕ) (i : ℕ) → position p xs ≡ Some i → position_or_len p xs ≡ i

@@ -4,6 +4,7 @@ use Rattle.std.specs.Prelude.{map, position}
 use Rattle.std.specs.List.{list_any, position_or_len}
 use Rattle.std.proofs.lemmas.List.{length-map, map-append}
 use Rattle.std.specs.Str.{bytes_eq}
+use Rattle.gp_text.proofs.Told.{told}
 use Rattle.gp_text.specs.Fault.{is_among}
 use Rattle.gp_text.specs.Names.{with_name}
 
@@ -17,10 +18,6 @@ position-map p f xs = rw (or_len-map p f xs, length-map xs f) refl
 pub list_any-map : {A B : Type 0} (p : B → Bool) (f : A → B) (xs : List A) → list_any p (map f xs) ≡ list_any (λ x. p (f x)) xs
 list_any-map p f [] = refl
 list_any-map p f (x ∷ xs) = ap (λ b. p (f x) || b) (list_any-map p f xs)
-
-pub told : (b : Bool) → (b ≡ true) ⊎ (b ≡ false)
-told true = inl refl
-told false = inr refl
 
 -- the place of a name, and whether it is there, among names that are kept by reference
 pub placed : {X : Type 0} (f : X → List ℕ) (name : List ℕ) (keys : List X) (now : List (List ℕ)) → map f keys ≡ now → position (λ k. bytes_eq name (f k)) keys ≡ position (bytes_eq name) now

@@ -9,11 +9,8 @@ use Rattle.std.specs.Str.Parse.{digits_value, ParsesUnsigned}
 use Rattle.std.proofs.lemmas.Str.{IsUtf8-from_ascii, is_utf8-from_IsUtf8, IsUtf8-from_is_utf8}
 use Rattle.std.proofs.lemmas.Str.Parse.{IsNumeralModel, numerals_by_value, tells_all_ascii_digits, parse_gives, digits_value_short}
 use Rattle.std.proofs.lemmas.Bool.Decides.{nat_tests}
+use Rattle.gp_text.proofs.Told.{told}
 use Rattle.gp_text.specs.Line.{begins_name, continues_name, has_length, is_name, leads, is_numeral, number}
-
-pub told : (b : Bool) → (b ≡ true) ⊎ (b ≡ false)
-told true = inl refl
-told false = inr refl
 
 pub both_left : (a b : Bool) → (a && b) ≡ true → a ≡ true
 both_left true b h = refl

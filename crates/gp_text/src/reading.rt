@@ -81,14 +81,15 @@ pub fn read(alloc: Global, bytes: &[u8]) -> Result<Program, TextError>
     ensures ok { IfOk result (λ program. program_of bytes.now ≡ Gives program) }
     ensures refused { IfErr result (IsRefusalOf (program_of bytes.now)) }
 {
-    let said = said_lines(alloc, bytes)?;
-    let spaces = declared(alloc, said.as_slice())?;
-    if let Some(at) = unknown_place(&spaces, said.as_slice()) {
+    let lines = said_lines(alloc, bytes)?;
+    let said = lines.as_slice();
+    let spaces = declared(alloc, said)?;
+    if let Some(at) = unknown_place(&spaces, said) {
         return Err(TextError::Refused {
             line: at as u32 + 1,
             cause: Cause::UnknownName,
         });
     }
-    let parts = parts(alloc, &spaces, said.as_slice())?;
+    let parts = parts(alloc, &spaces, said)?;
     checked(alloc, parts)
 }

@@ -3,8 +3,7 @@ use gp_isa::{Program, What};
 use std::test::Fail;
 
 // Where and why a file is refused, (0, 0) where it is read.
-fn refusal(rt: &HostRuntime, file: &[u8]) -> Result<(u32, u8), Fail>
-{
+fn refusal(rt: &HostRuntime, file: &[u8]) -> Result<(u32, u8), Fail> {
     match read(rt.alloc(), file) {
         Ok(_) => Ok((0, 0)),
         Err(TextError::Refused { line, cause }) => Ok((line, cause.number())),
