@@ -1,0 +1,9 @@
+pub mod Told
+pub mod Cuts
+pub mod Texts
+pub mod Known
+pub mod Steps
+pub mod Behind
+pub mod InLimits
+pub mod Fitting
+pub mod Judging

@@ -1,0 +1,35 @@
+ghost use Rattle.std.specs.Prelude.{◌≡◌};
+ghost use Rattle.gp_text.specs.Fault.{space_of, most_names};
+
+use crate::verb::Verb;
+
+/// Functions, channels and mutexes have a space of names each.
+#[derive(Clone, Copy, Debug, PartialEq, Eq)]
+pub(crate) enum Space {
+    Functions,
+    Channels,
+    Mutexes,
+}
+
+impl Space {
+    /// The space of the names that a word is followed by.
+    pub(crate) fn of(verb: Verb) -> Space
+        ensures { result ≡ space_of verb }
+    {
+        match verb {
+            Verb::Call | Verb::Spawn => Space::Functions,
+            Verb::Send | Verb::Recv => Space::Channels,
+            Verb::Lock | Verb::Unlock => Space::Mutexes,
+        }
+    }
+
+    /// The most names of the space.
+    pub(crate) fn most(self) -> usize
+        ensures { result ≡ most_names self }
+    {
+        match self {
+            Space::Functions => 256,
+            Space::Channels | Space::Mutexes => 1024,
+        }
+    }
+}

@@ -1,0 +1,10 @@
+/// The word of a statement that names a function, a channel or a mutex.
+#[derive(Clone, Copy, Debug, PartialEq, Eq)]
+pub(crate) enum Verb {
+    Call,
+    Spawn,
+    Send,
+    Recv,
+    Lock,
+    Unlock,
+}
