@@ -9,9 +9,9 @@ use gp_wire::Profile;
 use std::alloc::Global;
 
 /// The goroutine profile of records, as Go's `runtime/pprof` makes it: one sample for each stack with labels that
-/// records show, its value the number of those records, and 1 goroutine between two samples. `file` is the name of the
-/// program's file, without which functions have no filename. A function that the program doesn't have shows as one
-/// without a name at line 0, and a label set that it doesn't have as the empty one.
+/// records show, its value the number of those records, with a period of 1 goroutine. `file` is the name of the
+/// program's file, which all functions have as filename. A function that the program doesn't have shows as one without
+/// a name at line 0, and a label set that it doesn't have as the empty one.
 pub fn goroutine_profile<'a>(
     alloc: Global,
     program: &'a Program,
