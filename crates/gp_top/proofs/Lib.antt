@@ -1,8 +1,3 @@
-pub mod Numbers
-pub mod Cuts
-pub mod Reading
-pub mod Header
-pub mod Main
-pub mod Table
-pub mod Start
+pub mod Reporting
 pub mod Loading
+pub mod Saving

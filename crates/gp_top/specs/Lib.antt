@@ -1,7 +1,5 @@
-pub mod Words
-pub mod File
-pub mod Lines
-pub mod Start
-pub mod Expected
+pub mod Report
+pub mod Status
+pub mod Files
 pub mod Top
 pub mod Errors

@@ -1,26 +1,24 @@
-//! The top call: command words and a program file in, a goroutine profile out.
+//! The top call: command words and a program file in, goroutine profiles out.
 //!
-//! [`plain_top`] goes one way. The words name a file (`words`). The source is read to its end (`load`), and its
-//! bytes are the text of a program (`file`, `number`, `program`) or refused. The program's goroutine profile before
-//! its first step (`profile`) becomes bytes and is put into the store (`save`). How that went is the exit status.
+//! [`plain_top`] goes one way. The words name a file and options (`gp_words`). The source is read to its end, and its
+//! bytes give a program (`gp_text`) or are refused (`load`). The program is run in the order that the options' numbers
+//! choose (`gp_sim`), and what the run tells is its report (`report`). Each goroutine profile that was opened (`gp_build`)
+//! becomes bytes (`gp_wire`) and is put into the store (`save`). How all that went is the exit status (`finish`).
 //!
-//! So far there is one form of command, `sim FILE --at 0`, and one of program: `main` with one to 64 statements of
-//! `work`. `specs/Top.antt` has what the call promises, and stands on the text of a program (`specs/File.antt`), the
-//! row of `main` at its first point (`specs/Start.antt`), the profile that one row makes (`specs/Expected.antt`) and
-//! a profile's canonical bytes (of `gp_wire`).
+//! What the call promises is in `specs/Top.antt`, to be read last: `Report` says what a report tells of its journal,
+//! `Status` which status a run comes to, and `Files` which files it puts.
 #![tactic(auto)]
 
-mod file;
+mod finish;
 mod load;
-mod number;
-mod profile;
-mod program;
+mod report;
 mod save;
 pub mod status;
 mod top;
-mod words;
 
+pub use report::Report;
 pub use top::{Outcome, plain_top};
 
 #[cfg(test)]
 mod tests;
+

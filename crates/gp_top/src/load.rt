@@ -2,10 +2,9 @@ ghost use Rattle.std.specs.Prelude.{◌≡◌, IfOk, OnOk, OnErr, IsErrOf};
 ghost use Rattle.gp_io.specs.Outside.{Rose};
 ghost use Rattle.gp_top.specs.Top.{IsAccepted, IsRefused, IsReadWhole};
 
-use crate::file::FileError;
-use crate::program::read;
 use gp_io::{ReadError, Source, read_all};
 use gp_isa::Program;
+use gp_text::{TextError, read};
 use std::alloc::Global;
 
 // The most bytes of a program file.
@@ -36,16 +35,16 @@ impl From<ReadError> for LoadError {
     }
 }
 
-impl From<FileError> for LoadError {
+impl From<TextError> for LoadError {
     ghost use Rattle.std.specs.Prelude.{◌≡◌};
-    ghost use Rattle.gp_top.specs.Errors.{load_of_file};
+    ghost use Rattle.gp_top.specs.Errors.{load_of_text};
 
-    ghost from_gives = { λ error made. made ≡ load_of_file error };
+    ghost from_gives = { λ error made. made ≡ load_of_text error };
 
-    fn from(error: FileError) -> LoadError {
+    fn from(error: TextError) -> LoadError {
         match error {
-            FileError::Form => LoadError::Refused,
-            FileError::Memory => LoadError::Memory,
+            TextError::Refused { .. } => LoadError::Refused,
+            TextError::Memory => LoadError::Memory,
         }
     }
 }

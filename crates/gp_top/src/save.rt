@@ -1,18 +1,21 @@
-ghost use Rattle.std.specs.Prelude.{◌≡◌, OnOk, IsErrOf, codes};
-ghost use Rattle.gp_io.specs.Outside.{Rose, KeepsOthers};
-ghost use Rattle.gp_top.specs.File.{MainInLimits};
-ghost use Rattle.gp_top.specs.Top.{Gains};
+ghost use Rattle.std.specs.Prelude.{◌≡◌, ◌<◌, ◌+◌, ◌^◌, OnOk, IsErrOf, IfOk, string_bytes};
+ghost use Rattle.gp_io.specs.Outside.{Rose, Puts, KeepsOthers};
+ghost use Rattle.gp_wire.specs.Canonical.{canon};
+ghost use Rattle.gp_build.specs.Profile.{goroutine_profile_of};
+ghost use Rattle.gp_top.specs.Files as definition;
+ghost use Rattle.gp_top.specs.Files.{files_of, Gains, GainsSome, FailsAtNext};
 
-use crate::profile::start_profile;
+use gp_build::goroutine_profile;
 use gp_io::{Failed, Store};
 use gp_isa::{Memory, Program};
+use gp_stack::{Profiles, Records};
 use gp_wire::write;
 use std::alloc::Global;
 
-/// Why no profile was put.
+/// Why not all files were put.
 #[derive(Clone, Copy, Debug, PartialEq, Eq)]
 pub(crate) enum SaveError {
-    /// The put failed.
+    /// A put failed.
     PutFault,
     Memory,
 }
@@ -39,22 +42,51 @@ impl From<Memory> for SaveError {
     }
 }
 
-/// Puts the goroutine profile of the program at its start.
-pub(crate) fn save<K: Store>(
+// The name of the goroutine profile of an epoch.
+fn profile_name(alloc: Global, epoch: usize) -> Result<String, Memory>
+    ensures { IfOk result (λ name. string_bytes name ≡ definition.profile_name epoch) }
+{
+    Ok(format!(in alloc; "goroutine.{epoch}.pb")?)
+}
+
+// Puts the goroutine profile that the records of an epoch make.
+fn put_profile<K: Store>(
     alloc: Global,
     program: &Program,
     file: &str,
+    epoch: usize,
+    records: &Records,
     store: &mut K,
 ) -> Result<(), SaveError>
-    requires { MainInLimits program.now }
-    ensures gained { OnOk result (Gains (K.files store.old) (K.files store.new) file.now program.now) }
+    ensures put { OnOk result (Puts (K.files store.old) (definition.profile_name epoch) (canon (goroutine_profile_of program.now file.now records.now)) (K.files store.new)) }
     ensures well { OnOk result (K.faults store.new ≡ K.faults store.old) }
     ensures fault { IsErrOf result SaveError.PutFault → Rose (K.faults store.old) (K.faults store.new) }
-    ensures others { IsErrOf result SaveError.PutFault → KeepsOthers (K.files store.old) (codes "goroutine.1.pb") (K.files store.new) }
+    ensures others { IsErrOf result SaveError.PutFault → KeepsOthers (K.files store.old) (definition.profile_name epoch) (K.files store.new) }
     ensures memory { IsErrOf result SaveError.Memory → store.new ≡ store.old }
 {
-    let profile = start_profile(alloc, program, file)?;
+    let name = profile_name(alloc, epoch)?;
+    let profile = goroutine_profile(alloc, program, file, records)?;
     let bytes = write(alloc, &profile)?;
-    store.put("goroutine.1.pb", bytes.as_slice())?;
+    store.put(name.as_str(), bytes.as_slice())?;
+    Ok(())
+}
+
+/// Puts the goroutine profiles of a run, by epoch. Where a put fails no more is put.
+pub(crate) fn put_profiles<K: Store>(
+    alloc: Global,
+    program: &Program,
+    file: &str,
+    profiles: &Profiles,
+    store: &mut K,
+) -> Result<(), SaveError>
+    ensures gained { OnOk result (Gains (K.files store.old) (files_of program.now file.now profiles.now) (K.files store.new)) }
+    ensures well { (IsErrOf result SaveError.PutFault → ⊥) → K.faults store.new ≡ K.faults store.old }
+    ensures fault { IsErrOf result SaveError.PutFault → Rose (K.faults store.old) (K.faults store.new) }
+    ensures fails { IsErrOf result SaveError.PutFault → FailsAtNext (K.files store.old) (files_of program.now file.now profiles.now) (K.files store.new) }
+    ensures memory { IsErrOf result SaveError.Memory → GainsSome (K.files store.old) (files_of program.now file.now profiles.now) (K.files store.new) }
+{
+    for (at, records) in profiles.as_slice().iter().enumerate() {
+        put_profile(alloc, program, file, at + 1, records, store)?;
+    }
     Ok(())
 }

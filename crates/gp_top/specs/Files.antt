@@ -1,0 +1,48 @@
+-- The files that a run puts.
+use Rattle.std.specs.Prelude.{◌≡◌, ℕ, suc, List, [], ◌∷◌, ◌++◌, take, Option, Some, None, codes}
+use Rattle.std.specs.Fmt.{decimal}
+use Rattle.gp_io.specs.Outside.{File, with_file, KeepsOthers}
+use Rattle.gp_isa.specs.declared.parts.Parts.{Parts}
+use Rattle.gp_stack.specs.declared.record.Record.{Record as Row}
+use Rattle.gp_wire.specs.Canonical.{canon}
+use Rattle.gp_build.specs.Profile.{goroutine_profile_of}
+
+-- the name of the goroutine profile of an epoch
+abbrev pub profile_name : ℕ → List ℕ
+profile_name epoch = codes "goroutine." ++ decimal epoch ++ codes ".pb"
+
+-- The goroutine profiles of lists of records, from an epoch on: each has its name, and the canonical bytes of the profile
+-- that its records make.
+abbrev pub profiles_from : Parts → List ℕ → ℕ → List (List Row) → List File
+profiles_from program file epoch [] = []
+profiles_from program file epoch (rows ∷ lists) =
+    (profile_name epoch, canon (goroutine_profile_of program file rows)) ∷ profiles_from program file (suc epoch) lists
+
+-- The files of a run: its goroutine profiles, by epoch.
+abbrev pub files_of : Parts → List ℕ → List (List Row) → List File
+files_of program file lists = profiles_from program file 1 lists
+
+-- what stands after files were put, one after another
+abbrev pub with_files : List File → List File → List File
+with_files held [] = held
+with_files held (file ∷ files) = with_files (with_file held file.0 file.1) files
+
+-- The store gained these files, whole.
+abbrev pub Gains : Option (List File) → List File → Option (List File) → Type 0
+Gains None files after = Unit {0}
+Gains (Some held) files after = after ≡ Some (with_files held files)
+
+-- The store gained the first few of the files whole, and then nothing.
+pub record GainsSome (before : Option (List File)) (files : List File) (after : Option (List File)) : Type 0 where
+  pub n : ℕ
+  pub gained : Gains before (take n files) after
+
+-- The store gained the first few of the files whole, and then failed at the next one. Of what stands under the name of
+-- that one nothing is said.
+pub record FailsAtNext (before : Option (List File)) (files : List File) (after : Option (List File)) : Type 0 where
+  pub n : ℕ
+  pub next : File
+  pub mid : Option (List File)
+  pub is_next : take (suc n) files ≡ take n files ++ next ∷ []
+  pub gained : Gains before (take n files) mid
+  pub others_kept : KeepsOthers mid next.0 after

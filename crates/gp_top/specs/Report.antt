@@ -1,0 +1,58 @@
+-- What the report of a run tells of its journal.
+use Rattle.std.specs.Prelude.{◌≡◌, ◌≤◌, ◌+◌, ℕ, List, [], ◌∷◌, length, get_or, map}
+use Rattle.gp_isa.specs.declared.parts.Parts.{Parts}
+use Rattle.gp_stack.specs.declared.record.Record.{Record as Row}
+use Rattle.gp_machine.specs.declared.entry.Entry.{Entry}
+use Rattle.gp_machine.specs.declared.entry.Entry.TheVariants.{Open, Refuse, Record, Close}
+use Rattle.gp_machine.specs.declared.goroutine.Worker.{Worker}
+use Rattle.gp_machine.specs.declared.settings.Settings.{Settings}
+use Rattle.gp_machine.specs.State.{code_of, births, live}
+use Rattle.gp_machine.specs.Due.{ended}
+use Rattle.gp_machine.specs.Made.{made_by}
+use Rattle.gp_machine.specs.Run.{last, IsFinished}
+use Rattle.gp_sim.specs.Choice.{sim_journal}
+use Rattle.gp_sim.specs.Profiles.{AreFrozen}
+use Rattle.gp_top.specs.declared.report.Report.{Report}
+
+-- the goroutines that the Record entries up to the first Close name, in their order
+abbrev pub ids_taken : List Entry → List ℕ
+ids_taken [] = []
+ids_taken (Record actor g ∷ entries) = g ∷ ids_taken entries
+ids_taken (Close epoch ∷ entries) = []
+ids_taken (entry ∷ entries) = ids_taken entries
+
+-- For each Open of a journal, the goroutines that the Record entries from there up to the next Close name.
+abbrev pub recorded_ids : List Entry → List (List ℕ)
+recorded_ids [] = []
+recorded_ids (Open epoch room ∷ entries) = ids_taken entries ∷ recorded_ids entries
+recorded_ids (entry ∷ entries) = recorded_ids entries
+
+-- the goroutines of records
+abbrev pub ids : List Row → List ℕ
+ids rows = map (λ (row : Row). row.g) rows
+
+-- the room and the number of live goroutines of each Refuse entry
+abbrev pub refusals : List Entry → List (ℕ × ℕ)
+refusals [] = []
+refusals (Refuse room n ∷ entries) = (room, n) ∷ refusals entries
+refusals (entry ∷ entries) = refusals entries
+
+-- The entries that each actor made: the workers, and the profiler last.
+pub record AreMade (settings : Settings) (journal : List Entry) (made : List ℕ) : Type 0 where
+  pub actors : length made ≡ settings.workers + 1
+  pub each : (actor : ℕ) → actor ≤ settings.workers → get_or made actor 0 ≡ made_by settings actor journal
+
+-- The report of a run of a program under its options. The journal is legal, complete, and the one that the choice by
+-- numbers gives. Each Open has its list of records, which names those that the Record entries name, and which sorted is
+-- that of all goroutines live at that Open. What else is told is told by the state after all entries.
+pub record IsReport (program : Parts) (settings : Settings) (report : Report) : Type 0 where
+  pub finished : IsFinished (code_of program) settings report.journal
+  pub chosen : report.journal ≡ sim_journal (code_of program) settings
+  pub recorded : map ids report.goroutine_records ≡ recorded_ids report.journal
+  pub frozen : AreFrozen (code_of program) settings report.journal report.goroutine_records
+  pub refused_are : report.refused ≡ refusals report.journal
+  pub done_are : report.done ≡ map (λ (worker : Worker). worker.instructions) (last (code_of program) settings report.journal).workers
+  pub made_are : AreMade settings report.journal report.made
+  pub ended_is : report.ended ≡ ended (last (code_of program) settings report.journal)
+  pub born_are : report.born ≡ births (last (code_of program) settings report.journal)
+  pub live_are : report.live ≡ live (last (code_of program) settings report.journal)

@@ -1,0 +1,51 @@
+ghost use Rattle.std.specs.Prelude.{◌≡◌, ◌≢◌};
+ghost use Rattle.gp_io.specs.Outside.{Rose};
+ghost use Rattle.gp_top.specs.Files.{files_of};
+ghost use Rattle.gp_top.specs.Status as definition;
+ghost use Rattle.gp_top.specs.Top.{ArePut, IsAfterRun};
+
+use crate::report::Report;
+use crate::save::{SaveError, put_profiles};
+use crate::status::{DEADLOCK, DONE, FAULT, FULL, MEMORY, PROFILE_REFUSED, PUT_FAULT};
+use gp_io::Store;
+use gp_isa::Program;
+use gp_machine::Ended;
+use std::alloc::Global;
+
+// The status that tells how a run ended.
+fn status_of(report: &Report) -> u8
+    ensures { result ≡ definition.status_of report.now }
+{
+    match report.ended {
+        Ended::Fault { .. } => FAULT,
+        Ended::Full => FULL,
+        Ended::Deadlock => DEADLOCK,
+        Ended::Main => {
+            if report.refused.is_empty() {
+                DONE
+            } else {
+                PROFILE_REFUSED
+            }
+        }
+    }
+}
+
+/// Puts the files of a run that is complete, and gives the exit status.
+pub(crate) fn finish<K: Store>(
+    alloc: Global,
+    program: &Program,
+    file: &str,
+    report: &Report,
+    store: &mut K,
+) -> u8
+    ensures put { ArePut (K.files store.old) (K.files store.new) (files_of program.now file.now report.now.goroutine_records) (definition.status_of report.now) result }
+    ensures fault { result ≡ PUT_FAULT → Rose (K.faults store.old) (K.faults store.new) }
+    ensures well { result ≢ PUT_FAULT → K.faults store.new ≡ K.faults store.old }
+    ensures after_run { IsAfterRun result }
+{
+    match put_profiles(alloc, program, file, &report.goroutine_records, store) {
+        Ok(()) => status_of(report),
+        Err(SaveError::PutFault) => PUT_FAULT,
+        Err(SaveError::Memory) => MEMORY,
+    }
+}

@@ -1,0 +1,139 @@
+ghost use Rattle.std.specs.Prelude.{◌≡◌, ◌≤◌, IfOk, map};
+ghost use Rattle.gp_machine.specs.declared.goroutine.Worker.{Worker};
+ghost use Rattle.gp_machine.specs.Settings.{AreInRange};
+ghost use Rattle.gp_machine.specs.State.{code_of};
+ghost use Rattle.gp_machine.specs.Run.{last, IsFinished};
+ghost use Rattle.gp_sim.specs.Choice.{sim_journal};
+ghost use Rattle.gp_sim.specs.Profiles.{records_of};
+ghost use Rattle.gp_top.specs.Report as definition;
+ghost use Rattle.gp_top.specs.Report.{AreMade, IsReport};
+
+use gp_isa::{Memory, Program, Sequence};
+use gp_machine::{Counts, Ended, Entry, Journal, Machine, Refusals, Run, Settings};
+use gp_sim::{Simulated, simulate};
+use gp_stack::Profiles;
+use std::alloc::Global;
+use std::marker::Brand;
+
+/// What a run tells that is complete.
+#[derive(Debug, Drop)]
+pub struct Report {
+    /// The entries, in their order.
+    pub journal: Journal,
+    /// The records of each goroutine profile that was opened, by epoch, in the order in which they were made.
+    pub goroutine_records: Profiles,
+    /// The room and the number of live goroutines of each profile that was refused.
+    pub refused: Refusals,
+    /// How many instructions each worker has run.
+    pub done: Counts,
+    /// How many entries each actor made: the workers, and the profiler last.
+    pub made: Counts,
+    /// How the run ended.
+    pub ended: Ended,
+    /// How many goroutines were born.
+    pub born: u32,
+    /// How many of them are live at the end.
+    pub live: u32,
+}
+
+// The room and the number of live goroutines of each Refuse entry.
+fn refusals(alloc: Global, journal: &[Entry]) -> Result<Refusals, Memory>
+    ensures { IfOk result (λ refused. refused ≡ definition.refusals journal.now) }
+{
+    let mut refused = Vec::new(alloc);
+    for made in journal {
+        if let Entry::Refuse { room, n } = *made {
+            refused.push((room, n))?;
+        }
+    }
+    Ok(Sequence::from_vec(refused))
+}
+
+// The instructions of each worker.
+fn instructions<R: Run>(
+    alloc: Global,
+    settings: &Settings,
+    machine: &Machine<R>,
+) -> Result<Counts, Memory>
+    requires settings { settings.now ≡ R.settings }
+    requires range { AreInRange settings.now }
+    ensures { IfOk result (λ done. done ≡ map (λ (worker : Worker). worker.instructions) (last (code_of R.program) R.settings machine.now).workers) }
+{
+    let _ = machine.journal();
+    let mut done = Vec::new(alloc);
+    for w in 0..settings.workers {
+        done.push(machine.done(w))?;
+    }
+    Ok(Sequence::from_vec(done))
+}
+
+// The entries of each actor, the profiler last.
+fn entries_made<R: Run>(
+    alloc: Global,
+    settings: &Settings,
+    machine: &Machine<R>,
+) -> Result<Counts, Memory>
+    requires settings { settings.now ≡ R.settings }
+    requires range { AreInRange settings.now }
+    ensures { IfOk result (AreMade R.settings machine.now) }
+{
+    let mut made = Vec::new(alloc);
+    for actor in 0..settings.workers + 1 {
+        made.push(machine.made(actor))?;
+    }
+    Ok(Sequence::from_vec(made))
+}
+
+// The report of a run that is complete.
+fn report_on<R: Run>(
+    alloc: Global,
+    settings: &Settings,
+    simulated: Simulated<R>,
+) -> Result<Report, Memory>
+    requires settings { settings.now ≡ R.settings }
+    requires range { AreInRange settings.now }
+    requires finished { IsFinished (code_of R.program) R.settings simulated.machine }
+    requires chosen { simulated.machine ≡ sim_journal (code_of R.program) R.settings }
+    requires records { simulated.records ≡ records_of (code_of R.program) R.settings simulated.machine }
+    ensures { IfOk result (IsReport R.program R.settings) }
+{
+    let Simulated { machine, records } = simulated;
+    let refused = refusals(alloc, machine.journal())?;
+    let done = instructions(alloc, settings, &machine)?;
+    let made = entries_made(alloc, settings, &machine)?;
+    let ended = machine.ended();
+    let born = machine.births();
+    let live = machine.live();
+    Ok(Report {
+        journal: machine.into_journal(),
+        goroutine_records: records,
+        refused,
+        done,
+        made,
+        ended,
+        born,
+        live,
+    })
+}
+
+fn run_named<R: Run>(
+    alloc: Global,
+    program: &Program,
+    settings: &Settings,
+) -> Result<Report, Memory>
+    requires program { program.now ≡ R.program }
+    requires settings { settings.now ≡ R.settings }
+    requires range { AreInRange settings.now }
+    ensures { IfOk result (IsReport R.program R.settings) }
+{
+    let simulated = simulate::<R>(alloc, program, settings)?;
+    report_on(alloc, settings, simulated)
+}
+
+/// Runs a program in the order that its options' numbers choose, to the end, and reports on it.
+pub(crate) fn run(alloc: Global, program: &Program, settings: &Settings) -> Result<Report, Memory>
+    requires { AreInRange settings.now }
+    ensures { IfOk result (IsReport program.now settings.now) }
+{
+    run_named::<Brand>(alloc, program, settings)
+}
