@@ -18,6 +18,7 @@ use gp_wire::{
 use indexmap::IndexSet;
 use std::alloc::Global;
 
+/// A list of one.
 pub(crate) fn one<T: Drop>(alloc: Global, item: T) -> Result<Sequence<T>, Memory>
     ensures { IfOk result (λ items. items ≡ item ∷ []) }
 {
@@ -26,6 +27,7 @@ pub(crate) fn one<T: Drop>(alloc: Global, item: T) -> Result<Sequence<T>, Memory
     Ok(items)
 }
 
+// The number of a text.
 fn number<'a>(strings: &IndexSet<Need<'a>>, need: &Need<'a>) -> i64
     ensures { result ≡ string_number strings.now.keys need.now }
 {
@@ -67,6 +69,7 @@ fn labels<'a>(
     Ok(labels)
 }
 
+// Ids are counted from 1.
 fn location_id(locations: &IndexSet<Place>, at: &Place) -> u64
     ensures { result ≡ numbers.location_id locations.now.keys at.now }
 {

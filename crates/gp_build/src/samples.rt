@@ -28,7 +28,7 @@ fn count<'a>(counts: &mut IndexMap<Shown<'a>, u64>, shown: Shown<'a>) -> Result<
     Ok(())
 }
 
-// How many records show what.
+// Each stack with labels that records show, in the order of first sight, with the number of those records.
 fn counts<'a>(
     alloc: Global,
     parts: &'a Parts,
@@ -43,6 +43,7 @@ fn counts<'a>(
     Ok(counts)
 }
 
+// Counts as a list, to be sorted.
 fn list<'a>(alloc: Global, counts: IndexMap<Shown<'a>, u64>) -> Result<Vec<Counted<'a>>, Memory>
     ensures { IfOk result (λ samples. samples.items ≡ map entry_of counts.entry.entries) }
 {

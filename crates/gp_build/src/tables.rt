@@ -15,6 +15,7 @@ use indexmap::IndexSet;
 use std::alloc::Global;
 use std::hash::Hash;
 
+// The name of each frame's function, and the file.
 fn need_frames<'a>(
     strings: &mut IndexSet<Need<'a>>,
     parts: &'a Parts,
@@ -30,6 +31,7 @@ fn need_frames<'a>(
     Ok(())
 }
 
+// The key and the value of each label.
 fn need_labels<'a>(strings: &mut IndexSet<Need<'a>>, labels: &'a [Pair]) -> Result<(), Memory>
     ensures { OnOk result (strings.new.keys ≡ insert_all same_need strings.old.keys (flat_map label_needs labels.now)) }
 {
@@ -60,6 +62,7 @@ pub(crate) fn strings<'a>(
     Ok(strings)
 }
 
+// The line of each frame.
 fn need_places(places: &mut IndexSet<Place>, stack: &[Frame]) -> Result<(), Memory>
     ensures { OnOk result (places.new.keys ≡ insert_all same_frame places.old.keys stack.now) }
 {
@@ -80,6 +83,7 @@ pub(crate) fn locations(alloc: Global, samples: &[Counted]) -> Result<IndexSet<P
     Ok(places)
 }
 
+// The function of each frame.
 fn need_functions(functions: &mut IndexSet<u32>, stack: &[Frame]) -> Result<(), Memory>
     ensures { OnOk result (functions.new.keys ≡ insert_all nat_eq functions.old.keys (map (λ (frame : Frame). frame.function) stack.now)) }
 {
