@@ -1,0 +1,8 @@
+chan c 0
+func main {
+spawn f
+recv c
+}
+func f {
+recv c
+}

@@ -1,0 +1,7 @@
+func main {
+spawn f
+work 5
+}
+func f {
+work 2
+}
