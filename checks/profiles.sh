@@ -1,7 +1,9 @@
 #!/usr/bin/env bash
-# Runs the program on every example, in the folder that this is started in, and looks at what it wrote: byte by byte
-# where the bytes are known, and through Go's pprof and protoc where they are there.
+# Runs the program on every example, in the folder that this is started in, and looks at its exit status, at what it
+# prints (nothing) and at the files that it puts: byte by byte where the bytes are known, and through Go's pprof and protoc
+# where they are there. What is expected is worked out by hand from the rules of the machine.
 set -u
+export LC_ALL=C
 top=$(cd -P -- "$(dirname -- "${BASH_SOURCE[0]}")/.." && pwd)
 gp=$top/gp
 failures=0
@@ -11,14 +13,26 @@ fail() {
   failures=$((failures + 1))
 }
 
-# status WANTED WORDS..: runs the program, which writes nothing to its standard output.
-status() {
-  local wanted=$1 got said
-  shift
-  said=$("$gp" "$@")
+# run STATUS FILES WORDS..: runs the program, which prints nothing and puts just these files (names in one word).
+run() {
+  local wanted=$1 files=$2 before got said put
+  shift 2
+  rm -f -- goroutine.*.pb 2>/dev/null
+  before=$(ls -A)
+  said=$("$gp" "$@" 2>&1)
   got=$?
+  put=$(comm -13 <(printf '%s\n' "$before") <(ls -A) | tr '\n' ' ')
   [ "$got" = "$wanted" ] || fail "gp $*: status $got in place of $wanted"
-  [ -z "$said" ] || fail "gp $*: it wrote '$said'"
+  [ -z "$said" ] || fail "gp $*: it printed '$said'"
+  [ "${put% }" = "$files" ] || fail "gp $*: it put '${put% }' in place of '$files'"
+}
+
+# refused TEXT: a file that holds this text (printf's escapes) is no program.
+refused() {
+  local before=$failures
+  printf "$1" >refused.gp
+  run 2 '' sim refused.gp --at 0
+  [ "$failures" = "$before" ] || echo "  (refused.gp holds '$1')"
 }
 
 # In CI the tools may be installed; a user's machine is left as it is.
@@ -36,10 +50,49 @@ raw() {
   go tool pprof -raw "$1" 2>/dev/null | grep -Eq -- "$2" || fail "pprof -raw $1 shows no line '$2'"
 }
 
+# What pprof shows of a profile: a line a sample, in their order, with its value and its frames, from the leaf on.
+# (Some versions write a column behind the line number.)
+shown() {
+  go tool pprof -raw "$1" 2>/dev/null | awk '
+    /^[A-Z]/ { part = $1; next }
+    part == "Samples:" && /^ *[0-9]+: [0-9 ]*$/ { samples[++n] = $0 }
+    part == "Locations" && /^ *[0-9]+: / {
+      place = $(NF - 1)
+      if (place ~ /:[0-9]+:[0-9]+$/) sub(/:[0-9]+$/, "", place)
+      frame[$1 + 0] = $(NF - 2) "@" place
+    }
+    END {
+      for (i = 1; i <= n; i++) {
+        many = split(samples[i], part_of, " ")
+        line = part_of[1] + 0
+        for (k = 2; k <= many; k++) line = line " " frame[part_of[k]]
+        print line
+      }
+    }'
+}
+
+# samples FILE SAMPLE..: pprof shows just these samples, in this order, each as `VALUE NAME@FILE:LINE..`.
+samples() {
+  local file=$1 wanted got
+  shift
+  [ "$has_go" = yes ] || return
+  wanted=$(printf '%s\n' "$@")
+  got=$(shown "$file")
+  [ "$got" = "$wanted" ] || fail "pprof shows of $file: '$got' in place of '$wanted'"
+}
+
 # decoded FILE PATTERN: protoc's print of the message, on one line, has a part that fits.
 decoded() {
   [ "$has_protoc" = yes ] || return
   protoc --decode_raw <"$1" | tr -s ' \n' ' ' | grep -Eq -- "$2" || fail "protoc --decode_raw $1 shows no '$2'"
+}
+
+# texts FILE TEXT..: the texts of a profile are the usual ones and then just these, in this order.
+texts() {
+  local file=$1 pattern
+  shift
+  pattern=$(printf ' 6: "%s"' '' goroutine count "$@")
+  decoded "$file" "${pattern//./\\.} 11 \{"
 }
 
 install_tools
@@ -50,9 +103,13 @@ command -v protoc >/dev/null && has_protoc=yes
 [ "$has_go" = yes ] || echo "skipped: no go"
 [ "$has_protoc" = yes ] || echo "skipped: no protoc"
 
+# The launcher may have to prove and build first, and says so.
+"$gp" >/dev/null
+[ $? != 125 ] || exit 1
+
 # The smallest program: 76 known bytes.
 printf 'func main {\nwork 1\n}\n' >a.gp
-status 0 sim a.gp --at 0
+run 0 goroutine.1.pb sim a.gp --at 0
 cat >wanted.hex <<'END'
 0a040801100212060a010112010122080801220408011002
 2a0a080110031803200428013200
@@ -62,37 +119,117 @@ END
 [ "$(od -An -v -tx1 goroutine.1.pb | tr -d ' \n')" = "$(tr -d '\n' <wanted.hex)" ] || fail "goroutine.1.pb of a.gp has other bytes"
 raw goroutine.1.pb '^ *1: 1 *$'
 raw goroutine.1.pb '^ *1: 0x0 M=1 main a\.gp:2(:0)? '
+samples goroutine.1.pb '1 main@a.gp:2'
 decoded goroutine.1.pb '^1 \{ 1: 1 2: 2 \} '
 decoded goroutine.1.pb ' 4 \{ 1: 1 4 \{ 1: 1 2: 2 \} \} '
-[ "$(ls)" = "$(printf 'a.gp\ngoroutine.1.pb\nwanted.hex')" ] || fail "other files lie in the folder: $(ls | tr '\n' ' ')"
-rm -f goroutine.1.pb
+texts goroutine.1.pb main a.gp
 
-# What ends in a status, and puts nothing.
-printf 'func main {\nwork 0\n}\n' >zero.gp
-status 2 sim zero.gp --at 0
-status 1 sim a.gp --at 1
-status 1
-status 3 sim missing.gp --at 0
-status 11 sim a.gp --at $'\xff'
-[ ! -e goroutine.1.pb ] || fail "a profile was put on a status other than 0"
+# Words that give no job: nothing is read and nothing is put.
+run 1 ''
+run 1 '' sim
+run 1 '' simulate a.gp
+run 1 '' sim ''
+run 1 '' sim -a.gp
+run 1 '' sim a.gp --at
+run 1 '' sim a.gp --at 1099511627777
+run 1 '' sim a.gp --at -1
+run 1 '' sim a.gp --room=1
+run 1 '' sim a.gp --rooms 1
+run 1 '' sim a.gp --room 1 --room 1
+run 1 '' sim a.gp --workers 17
+run 1 '' sim a.gp --picks 1,,2
+run 1 '' sim a.gp --at 0 --at 0 --at 0 --at 0 --at 0 --at 0 --at 0 --at 0 --at 0
+run 1 '' sim missing.gp --at
+run 11 '' sim a.gp --at $'\xff'
 
-# Every example: its frames, as file:line. Run from the top's own paths, as the README shows them.
-ln -s -- "$top/examples" examples
-frames() {
-  local file=$1 line
-  shift
-  status 0 sim "$file" --at 0
-  for line in "$@"; do raw goroutine.1.pb " $line(:0)? s=[0-9]+\$"; done
-  rm -f goroutine.1.pb
+# Files that are no programs, and files that can't be read.
+refused ''
+refused 'func main {\n\twork 1\n}\n'
+refused 'func main {\nwork 0\n}\n'
+refused 'func main {\nwork 1\n'
+refused 'func main {\n}\n'
+refused 'func main {\nsend c\n}\n'
+refused 'func main {\ncall main\n}\n'
+refused 'func main {\nwork 1\n\xff\n}\n'
+refused 'mutex m\nmutex m\nfunc main {\nlock m\n}\n'
+refused 'chan c 65536\nfunc main {\nsend c\n}\n'
+refused 'func f {\nwork 1\n}\n'
+refused '\x1f\x8b\x08'
+# (of two files alike but for a digit, one has a mebibyte, and the other one byte more)
+long() {
+  echo 'func main {'
+  yes 'work 1' | head -n 149793
+  printf 'work %s\n}\n' "$1"
 }
+long 10000 >whole.gp
+run 0 goroutine.1.pb sim whole.gp --at 0
+long 100000 >refused.gp
+run 2 '' sim refused.gp --at 0
+run 3 '' sim missing.gp --at 0
+run 3 '' sim . --at 0
+
+# A profile that can't be put, since a folder has its name.
+mkdir goroutine.1.pb
+run 4 '' sim a.gp --at 0
+rmdir goroutine.1.pb
+
+# A run that ends by a fault (a free mutex is unlocked), and one that ends with a full journal.
+printf 'mutex m\nfunc main {\nwork 3\nunlock m\n}\n' >unlocked.gp
+run 5 goroutine.1.pb sim unlocked.gp --workers 1 --at end
+samples goroutine.1.pb '1 main@unlocked.gp:4'
+printf 'func main {\nwork 20000\n}\n' >long.gp
+run 8 goroutine.1.pb sim long.gp --workers 1 --entries 16 --at end
+samples goroutine.1.pb '1 main@long.gp:2'
+
+# Every example, by the paths that the README shows. FILE stands in the profile as it was written.
+ln -s -- "$top/examples" examples
 seen=0
 for file in examples/*.gp; do
   seen=$((seen + 1))
   case $file in
     examples/first.gp)
-      status 0 sim "$file" --at 0
+      run 0 goroutine.1.pb sim "$file" --at 0
       [ "$(wc -c <goroutine.1.pb)" -eq 89 ] || fail "the profile of $file hasn't 89 bytes"
-      frames "$file" 'main examples/first\.gp:2'
+      samples goroutine.1.pb "1 main@$file:2"
+      texts goroutine.1.pb main "$file"
+      ;;
+    examples/spawn.gp)
+      # at clock 1 `main` has passed its spawn, and nobody else has run
+      run 0 goroutine.1.pb sim "$file" --workers 1 --at 1 --room 2
+      samples goroutine.1.pb "1 f@$file:6" "1 main@$file:3"
+      texts goroutine.1.pb f "$file" main
+      # two are live, and there is room for one
+      run 7 '' sim "$file" --workers 1 --at 1 --room 1
+      ;;
+    examples/chain.gp)
+      # forty frames, of which the 32 next to the leaf are kept
+      run 0 goroutine.1.pb sim "$file" --workers 1 --at 0
+      stack=1
+      names=("c39" "$file")
+      for ((i = 39; i >= 8; i--)); do
+        stack+=" c$i@$file:$((3 * i + 2))"
+        [ "$i" = 39 ] || names+=("c$i")
+      done
+      samples goroutine.1.pb "$stack"
+      texts goroutine.1.pb "${names[@]}"
+      ;;
+    examples/woken.gp)
+      # `f` is woken between the Open and its record, and is shown where it stood at the Open
+      run 0 goroutine.1.pb sim "$file" --workers 1 --at 1001 --picks 0,0,0,1,1
+      samples goroutine.1.pb "1 f@$file:9" "1 main@$file:5"
+      texts goroutine.1.pb f "$file" main
+      ;;
+    examples/mutex.gp)
+      # `main` passes two spawns, its lock and 997 instructions of work in its first slice, which ends at clock 1,000: it
+      # still works, holding the mutex, and the two that were born haven't run and stand at their lock
+      run 0 goroutine.1.pb sim "$file" --workers 1 --at 1000
+      samples goroutine.1.pb "2 b@$file:13" "1 main@$file:7"
+      texts goroutine.1.pb b "$file" main
+      ;;
+    examples/deadlock.gp)
+      run 6 goroutine.1.pb sim "$file" --workers 1 --at end
+      samples goroutine.1.pb "1 f@$file:7" "1 main@$file:4"
+      texts goroutine.1.pb f "$file" main
       ;;
     *) fail "$file has no expected frames in ${BASH_SOURCE[0]##*/}" ;;
   esac

@@ -1,0 +1,117 @@
+"""Writes the program files that sim.sh times.
+
+    programs.py mixed GOROUTINES          workers of calls, work, channels and mutexes
+    programs.py blocked GOROUTINES KIND   goroutines that all wait at last, with one stack (KIND is `same`) or as many
+                                          stacks as goroutines (`distinct`)
+    programs.py largest FRAMES            16,384 goroutines, with stacks of up to FRAMES frames, that fill the largest
+                                          journal
+
+The program goes to standard output. To standard error goes one line with its numbers: for `mixed` the operations (shared
+points and statements of work passed) and the instructions of a whole run, for `blocked` the goroutines and the distinct
+stacks among them, for `largest` the goroutines and the frames of each stack.
+"""
+
+import sys
+
+# A worker's round: three stretches of work, a mutex held for a while, and a number sent and one received. No stretch of
+# work borders on another one, so each operation takes an entry of the journal or more. Workers never all wait: one that
+# waits to receive has sent one more than it received, and one that waits to send just as many.
+ROUND = ["work 20", "lock m{c}", "work 5", "unlock m{c}", "send c{c}", "work 3", "recv c{c}"]
+ROUNDS = 256
+CLASSES = 4
+
+# The most goroutines, and the frames of a recorded stack.
+CELLS = 16_384
+FRAMES = 32
+
+
+def function(name, statements):
+    return [f"func {name} {{", *statements, "}"]
+
+
+def instructions(statement):
+    word, value = statement.split()
+    return int(value) if word == "work" else 1
+
+
+def mixed(goroutines):
+    """Workers of four classes, each with a mutex and a channel of its own. `main` waits until all are done."""
+    lines = [f"chan done {goroutines}"]
+    lines += [f"chan c{c} 8" for c in range(CLASSES)]
+    lines += [f"mutex m{c}" for c in range(CLASSES)]
+    spawns = [f"spawn worker{j % CLASSES}" for j in range(goroutines)]
+    lines += function("main", spawns + ["recv done"] * goroutines)
+    for c in range(CLASSES):
+        lines += function(f"worker{c}", [f"call many{c}"] * 16 + ["send done"])
+        lines += function(f"many{c}", [f"call round{c}"] * (ROUNDS // 16))
+        lines += function(f"round{c}", [statement.format(c=c) for statement in ROUND])
+    # (the last send of each worker, and a spawn and a receive of `main` for each)
+    operations = goroutines * (ROUNDS * len(ROUND) + 3)
+    steps = goroutines * (ROUNDS * sum(map(instructions, ROUND)) + 3)
+    return lines, f"{operations} {steps}"
+
+
+def chain(count, last):
+    """Functions d1, d2 .. that call each other, the first of them the last function."""
+    lines = []
+    for i in range(1, count + 1):
+        lines += function(f"d{i}", [f"call {last if i == 1 else f'd{i - 1}'}"])
+    return lines
+
+
+def same(goroutines):
+    """All goroutines but `main` wait at one line, behind the same calls."""
+    lines = ["chan never 0"]
+    lines += function("main", ["spawn f"] * (goroutines - 1) + ["recv never"])
+    lines += function("f", [f"call d{FRAMES - 2}"])
+    lines += chain(FRAMES - 2, "wait")
+    lines += function("wait", ["recv never"])
+    return lines, f"{goroutines} 2"
+
+
+def distinct(goroutines):
+    """All goroutines wait at different stacks: no two have both the outermost function and the innermost line in common.
+
+    They are born in turns, one of each outermost function. All send into the same channels, line by line, and each
+    channel has room for all of them but the last turn that comes there, which waits at that line for good. One worker,
+    which serves the queue in its order, keeps the turns apart.
+    """
+    turns = 74
+    others = goroutines - 1
+    functions = -(-others // turns)
+    lines = [f"chan c{i} {functions * (turns - i)}" for i in range(1, turns + 1)]
+    lines += ["chan never 0"]
+    spawns = [f"spawn f{k % functions}" for k in range(others)]
+    lines += function("main", spawns + ["recv never"])
+    for a in range(functions):
+        lines += function(f"f{a}", [f"call d{FRAMES - 2}"])
+    lines += chain(FRAMES - 2, "wait")
+    lines += function("wait", [f"send c{i}" for i in range(1, turns + 1)])
+    return lines, f"{goroutines} {goroutines}"
+
+
+def largest(frames):
+    """All goroutines that there may be, alive from early on to the end, that pass more points than a journal has entries."""
+    others = CELLS - 1
+    passes = ["send c", "recv c"] * 150
+    lines = [f"chan begin {CELLS}", f"chan c {CELLS}", "chan never 0"]
+    first = f"d{frames - 2}" if frames > 2 else "last"
+    lines += function("main", [f"spawn {first}"] * others + ["send begin"] * CELLS + [f"call {first}"])
+    lines += chain(frames - 2, "last")
+    lines += function("last", ["recv begin", *passes, "recv never"])
+    return lines, f"{CELLS} {frames}"
+
+
+def main():
+    kind, number = sys.argv[1], int(sys.argv[2])
+    if kind == "mixed":
+        lines, numbers = mixed(number)
+    elif kind == "blocked":
+        lines, numbers = (same if sys.argv[3] == "same" else distinct)(number)
+    else:
+        lines, numbers = largest(number)
+    sys.stdout.write("\n".join(lines) + "\n")
+    print(numbers, file=sys.stderr)
+
+
+main()
