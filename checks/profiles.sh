@@ -220,10 +220,10 @@ for file in examples/*.gp; do
       texts goroutine.1.pb f "$file" main
       ;;
     examples/mutex.gp)
-      # `main` passes two spawns, its lock and 997 instructions of work in its first slice, which ends at clock 1,000: it
-      # still works, holding the mutex, and the two that were born haven't run and stand at their lock
-      run 0 goroutine.1.pb sim "$file" --workers 1 --at 1000
-      samples goroutine.1.pb "2 b@$file:13" "1 main@$file:7"
+      # `main` passes two spawns, its lock and 997 instructions of work in its first slice, then both that were born come to
+      # their lock and wait, and the rest of its work is one run, which goes on past the instant to clock 1,005
+      run 0 goroutine.1.pb sim "$file" --workers 1 --at 1001
+      samples goroutine.1.pb "2 b@$file:13" "1 main@$file:8"
       texts goroutine.1.pb b "$file" main
       ;;
     examples/deadlock.gp)
