@@ -1,21 +1,18 @@
 -- What is kept behind lines of the first pass, and what its faults tell.
-use Rattle.std.proofs.Common.{◌≡◌, ◌⊎◌, inl, inr, ℕ, zero, suc, ◌+◌, ◌-◌, ◌<◌, ◌≤◌, ◌==◌, Bool, true, false, not, ◌||◌, cond, List, [], ◌∷◌, ◌++◌, length, get_or, take, drop, refl, sym, ap, ◌∙◌, arith, Option, Some, None, nat_le}
+use Rattle.std.proofs.Common.{◌≡◌, ◌⊎◌, inl, inr, ℕ, ◌+◌, ◌<◌, ◌≤◌, ◌==◌, Bool, true, false, cond, List, [], ◌∷◌, ◌++◌, length, get_or, take, drop, refl, sym, ap, ◌∙◌, arith, Some, None, nat_le}
 use Rattle.std.proofs.Math.Path.{fun_ext}
-use Rattle.std.specs.Prelude.{fold}
-use Rattle.std.specs.List.{flat_map}
 use Rattle.std.proofs.lemmas.List.{take_more, take_all, drop_all, append-nil, length-drop, length-take-le}
 use Rattle.std.proofs.lemmas.List.Concat.{flat_map-append}
 use Rattle.std.proofs.lemmas.List.Sums.{fold-append}
 use Rattle.std.proofs.lemmas.Bool.Decides.{nat_tests}
 use Rattle.gp_text.proofs.Told.{told, told_option}
 use Rattle.gp_text.specs.declared.cause.Cause.{Cause}
-use Rattle.gp_text.specs.declared.cause.Cause.TheVariants.{BadLine, Twice, OutOfRange, NotClosed}
+use Rattle.gp_text.specs.declared.cause.Cause.TheVariants.{Twice, OutOfRange, NotClosed}
 use Rattle.gp_text.specs.declared.space.Space.{Space}
 use Rattle.gp_text.specs.declared.space.Space.TheVariants.{Functions, Channels, Mutexes}
 use Rattle.gp_text.specs.declared.said.Said.{Said}
 use Rattle.gp_text.specs.declared.said.Said.TheVariants.{Header, Channel, Mutex}
-use Rattle.gp_text.specs.Fault.{Known, known_of, names, declared_in, is_among, is_inside, inside_after, most_names, declaration_fault, fault, Refusal, first_fault}
-use Rattle.gp_text.specs.Names.{with_name}
+use Rattle.gp_text.specs.Fault.{Known, known_of, names, declared_in, is_among, is_inside, inside_after, most_names, declaration_fault, fault, first_fault}
 use Rattle.gp_text.specs.Spaces.{with_declared}
 use Rattle.gp_text.proofs.Steps.{opened}
 

@@ -1,6 +1,6 @@
 -- The parts of lines without fault lie in their limits.
-use Rattle.std.proofs.Common.{◌≡◌, ◌⊎◌, inl, inr, ℕ, zero, suc, ◌+◌, ◌-◌, ◌*◌, ◌^◌, ◌<◌, ◌≤◌, ◌==◌, Bool, true, false, not, ◌||◌, ◌&&◌, cond, List, [], ◌∷◌, ◌++◌, length, get_or, refl, sym, ap, subst, ◌∙◌, arith, Option, Some, None, nat_le, nat_lt, append_assoc, length-append}
-use Rattle.std.specs.Prelude.{map, All, position, unwrap_or}
+use Rattle.std.proofs.Common.{◌≡◌, inl, inr, ℕ, ◌+◌, ◌<◌, ◌≤◌, Bool, true, false, ◌&&◌, List, [], ◌∷◌, ◌++◌, length, get_or, refl, sym, ap, subst, ◌∙◌, arith, nat_le, nat_lt}
+use Rattle.std.specs.Prelude.{map, position, unwrap_or}
 use Rattle.std.specs.List.{list_any, list_all, IsDistinct, AllByRecursion, position_or_len}
 use Rattle.std.specs.Str.{bytes_eq}
 use Rattle.std.proofs.lemmas.List.{length-map}
@@ -12,14 +12,14 @@ use Rattle.gp_isa.specs.declared.parts.ChannelDecl.{ChannelDecl}
 use Rattle.gp_isa.specs.declared.parts.MutexDecl.{MutexDecl}
 use Rattle.gp_isa.specs.declared.parts.LabelSet.{LabelSet}
 use Rattle.gp_isa.specs.declared.statement.Stmt.{Stmt}
-use Rattle.gp_isa.specs.Statement.{Action, action_of, action-work, action-call, action-send, action-recv, action-lock, action-unlock, action-spawn}
+use Rattle.gp_isa.specs.Statement.{action_of, action-work, action-call, action-send, action-recv, action-lock, action-unlock, action-spawn}
 use Rattle.gp_isa.specs.Limits.{AreNames, ArePairs, IsAction, AreStatements, AreInLimits}
 use Rattle.gp_text.specs.declared.verb.Verb.{Verb}
 use Rattle.gp_text.specs.declared.verb.Verb.TheVariants.{Call, Spawn, Send, Recv, Lock, Unlock}
 use Rattle.gp_text.specs.declared.space.Space.{Space}
 use Rattle.gp_text.specs.declared.space.Space.TheVariants.{Functions, Channels, Mutexes}
 use Rattle.gp_text.specs.declared.said.Said.{Said}
-use Rattle.gp_text.specs.declared.said.Said.TheVariants.{NotUtf8, Nonsense, Silent, Header, Channel, Mutex, Work, Use, Close}
+use Rattle.gp_text.specs.declared.said.Said.TheVariants.{Header, Channel, Mutex, Work, Use, Close}
 use Rattle.gp_text.specs.Line.{is_name, has_length, begins_name, continues_name}
 use Rattle.gp_text.specs.Fault.{Known, known_of, names, declared_in, space_of, is_among, is_unknown}
 use Rattle.gp_text.specs.Reading.{place_of, action, statement, body_at, functions_at, channels_at, mutexes_at, parts_of}

@@ -1,34 +1,23 @@
 -- The parts of lines without fault lie in their limits.
-use Rattle.std.proofs.Common.{◌≡◌, ◌⊎◌, inl, inr, ℕ, zero, suc, ◌+◌, ◌-◌, ◌*◌, ◌^◌, ◌<◌, ◌≤◌, ◌==◌, Bool, true, false, not, ◌||◌, ◌&&◌, cond, List, [], ◌∷◌, ◌++◌, length, get_or, refl, sym, ap, subst, ◌∙◌, arith, Option, Some, None, nat_le, nat_lt, append_assoc, length-append}
-use Rattle.std.specs.Prelude.{map, All, position, unwrap_or, option_to_list, codes}
-use Rattle.std.specs.List.{flat_map, list_any, list_all, IsDistinct, AllByRecursion, position_or_len}
+use Rattle.std.proofs.Common.{◌≡◌, inl, inr, ℕ, ◌<◌, ◌≤◌, ◌==◌, Bool, true, false, not, ◌&&◌, List, [], ◌∷◌, ◌++◌, length, sym, ◌∙◌, arith, Option, Some, None, nat_le, append_assoc, length-append}
+use Rattle.std.specs.Prelude.{map, All, codes}
+use Rattle.std.specs.List.{IsDistinct, AllByRecursion}
 use Rattle.std.specs.Str.{bytes_eq, is_utf8}
 use Rattle.std.specs.Cmp.Lexicographic.{nat_list_eq_equiv}
-use Rattle.std.proofs.lemmas.List.{append-nil, length-map}
-use Rattle.std.proofs.lemmas.List.Elements.{All-from_recursion, recursion_from_All, All-nil, All-append}
+use Rattle.std.proofs.lemmas.List.{append-nil}
+use Rattle.std.proofs.lemmas.List.Elements.{All-from_recursion}
 use Rattle.std.proofs.lemmas.Map.Keys.{IsDistinct-push}
 use Rattle.std.proofs.lemmas.Bool.Decides.{nat_tests}
-use Rattle.gp_isa.specs.declared.parts.Parts.{Parts}
-use Rattle.gp_isa.specs.declared.parts.Function.{Function}
-use Rattle.gp_isa.specs.declared.parts.ChannelDecl.{ChannelDecl}
-use Rattle.gp_isa.specs.declared.parts.MutexDecl.{MutexDecl}
-use Rattle.gp_isa.specs.declared.parts.LabelSet.{LabelSet}
-use Rattle.gp_isa.specs.declared.statement.Stmt.{Stmt}
-use Rattle.gp_isa.specs.declared.statement.What.TheVariants as what
-use Rattle.gp_isa.specs.Statement.{Action, action_of, action-work, action-call, action-send, action-recv, action-lock, action-unlock, action-spawn}
-use Rattle.gp_isa.specs.Limits.{AreNames, ArePairs, IsAction, AreStatements, AreInLimits}
 use Rattle.gp_text.specs.declared.verb.Verb.{Verb}
-use Rattle.gp_text.specs.declared.verb.Verb.TheVariants.{Call, Spawn, Send, Recv, Lock, Unlock}
 use Rattle.gp_text.specs.declared.space.Space.{Space}
 use Rattle.gp_text.specs.declared.space.Space.TheVariants.{Functions, Channels, Mutexes}
 use Rattle.gp_text.specs.declared.said.Said.{Said}
 use Rattle.gp_text.specs.declared.said.Said.TheVariants.{NotUtf8, Nonsense, Silent, Header, Channel, Mutex, Work, Use, Close}
-use Rattle.gp_text.specs.Line.{head_of, rest_of, is_name, has_length, begins_name, continues_name, number, verb_of, header, channel_of as channel_said, channel, mutex, work_of, work, use_of, spoken, lines_of, said_of}
-use Rattle.gp_text.specs.Fault.{Known, known_of, names, declared_in, space_of, most_names, is_among, is_inside, is_unknown, fault, first_fault, first_unknown, Refusal}
-use Rattle.gp_text.specs.Reading.{place_of, action, statement, statement_of, is_close, body_at, end_at, function_of, functions_at, channel_of, channels_at, mutex_of, mutexes_at, parts_of}
-use Rattle.gp_text.specs.CanBuild.{CanBuild, AreFew}
+use Rattle.gp_text.specs.Line.{head_of, rest_of, is_name, number, verb_of, header, channel_of as channel_said, channel, mutex, work_of, work, use_of, spoken, said_of}
+use Rattle.gp_text.specs.Fault.{Known, known_of, names, declared_in, most_names, is_inside, fault, first_fault}
+use Rattle.gp_text.specs.CanBuild.{CanBuild}
 use Rattle.gp_text.proofs.Told.{told, either}
-use Rattle.gp_text.proofs.Texts.{both_left, both_right}
+use Rattle.gp_text.proofs.Texts.{both_left}
 use Rattle.gp_text.proofs.Behind.{Adds, adds, names_more, no_fault, first_passed, fresh}
 
 -- The numbers of a line are in their ranges.

@@ -1,16 +1,16 @@
 -- What each pass makes of a file.
-use Rattle.std.proofs.Common.{◌≡◌, ◌⊎◌, inl, inr, ℕ, zero, suc, ◌+◌, ◌*◌, ◌^◌, ◌<◌, ◌≤◌, Bool, true, false, List, [], ◌∷◌, ◌++◌, length, refl, sym, ap, subst, ◌∙◌, arith, Option, Some, None, length-append, nat_lt, Result, Ok, Err}
+use Rattle.std.proofs.Common.{◌≡◌, inl, inr, ℕ, ◌+◌, ◌^◌, ◌<◌, ◌≤◌, Bool, true, false, List, [], ◌∷◌, length, refl, sym, ap, subst, ◌∙◌, arith, Some, None, length-append, nat_lt, Result, Ok, Err}
 use Rattle.std.proofs.lemmas.Bool.Decides.{nat_tests}
 use Rattle.std.specs.Result.{IsErrAnd, IfErr}
-use Rattle.std.specs.Prelude.{map, position, is_some, All}
+use Rattle.std.specs.Prelude.{map, position, All}
 use Rattle.std.specs.List.{AllByRecursion, position_or_len}
 use Rattle.gp_isa.specs.declared.parts.Parts.{Parts}
 use Rattle.gp_isa.specs.declared.parts.Function.{Function}
 use Rattle.gp_isa.specs.declared.parts.ChannelDecl.{ChannelDecl}
 use Rattle.gp_isa.specs.declared.parts.MutexDecl.{MutexDecl}
 use Rattle.gp_isa.specs.declared.parts.LabelSet.{LabelSet}
-use Rattle.gp_isa.specs.Checked.{main_of, first_empty}
-use Rattle.gp_isa.specs.Calls.{IsProgram, first_recursive, first_too_long}
+use Rattle.gp_isa.specs.Checked.{main_of}
+use Rattle.gp_isa.specs.Calls.{IsProgram}
 use Rattle.gp_isa.specs.Limits.{AreInLimits}
 use Rattle.gp_text.specs.declared.cause.Cause.{Cause}
 use Rattle.gp_text.specs.declared.cause.Cause.TheVariants as cause
@@ -21,9 +21,9 @@ use Rattle.gp_text.specs.declared.space.Space.TheVariants.{Functions, Channels, 
 use Rattle.gp_text.specs.declared.said.Said.{Said}
 use Rattle.gp_text.specs.declared.said.Said.TheVariants.{Header, Channel, Mutex}
 use Rattle.gp_text.specs.Line.{lines_of, said_of}
-use Rattle.gp_text.specs.Fault.{Known, known_of, names, declared_in, is_unknown, Refusal, first_fault, first_unknown}
+use Rattle.gp_text.specs.Fault.{Known, known_of, names, declared_in, is_unknown, first_fault}
 use Rattle.gp_text.specs.Refused.{IsRefusal}
-use Rattle.gp_text.specs.Reading.{functions_at, channels_at, mutexes_at, parts_of, Reading, Gives, Refuses, checked, judged, program_of, IsRefusalOf}
+use Rattle.gp_text.specs.Reading.{functions_at, channels_at, mutexes_at, parts_of, Gives, Refuses, checked, judged, program_of, IsRefusalOf}
 use Rattle.gp_text.specs.CanBuild.{CanBuild}
 use Rattle.gp_text.proofs.Told.{told, told_option}
 use Rattle.gp_text.proofs.InLimits.{Named, all_named, sound_of, buildable}

@@ -1,11 +1,7 @@
 -- One more line of each walk over what the lines say.
-use Rattle.std.proofs.Common.{◌≡◌, ℕ, zero, suc, ◌+◌, ◌<◌, ◌≤◌, ◌^◌, Bool, true, false, cond, List, [], ◌∷◌, ◌++◌, length, get_or, take, drop, refl, sym, ap, ◌∙◌, arith, Option, Some, None, append_assoc, add-one, drop-cons}
+use Rattle.std.proofs.Common.{◌≡◌, ℕ, ◌+◌, ◌<◌, ◌≤◌, true, false, List, [], ◌∷◌, ◌++◌, length, get_or, drop, refl, sym, ap, ◌∙◌, Option, Some, None, append_assoc, add-one, drop-cons}
 use Rattle.std.specs.Prelude.{option_to_list}
 use Rattle.std.proofs.lemmas.List.{drop_all, append-nil}
-use Rattle.gp_isa.specs.declared.parts.Function.{Function}
-use Rattle.gp_isa.specs.declared.parts.ChannelDecl.{ChannelDecl}
-use Rattle.gp_isa.specs.declared.parts.MutexDecl.{MutexDecl}
-use Rattle.gp_isa.specs.declared.statement.Stmt.{Stmt}
 use Rattle.gp_text.specs.declared.said.Said.{Said}
 use Rattle.gp_text.specs.Fault.{Known}
 use Rattle.gp_text.specs.Reading.{statement_of, is_close, body_at, end_at, function_of, functions_at, channel_of, channels_at, mutex_of, mutexes_at}

@@ -20,7 +20,7 @@ use Rattle.gp_text.specs.declared.verb.Verb.TheVariants.{Call, Spawn, Send, Recv
 use Rattle.gp_text.specs.declared.said.Said.{Said}
 use Rattle.gp_text.specs.declared.said.Said.TheVariants.{Header, Channel, Mutex, Work, Use, Close}
 use Rattle.gp_text.specs.Line.{lines_of, said_of}
-use Rattle.gp_text.specs.Fault.{Known, known_of, space_of, Refusal, first_fault, first_unknown}
+use Rattle.gp_text.specs.Fault.{Known, known_of, space_of, first_fault, first_unknown}
 
 -- the number of a name among those of the space of a word
 abbrev pub place_of : Known → Verb → List ℕ → ℕ

@@ -1,4 +1,4 @@
-use Rattle.std.proofs.Common.{◌∙◌, refl, arith}
+use Rattle.std.proofs.Common.{◌∙◌, arith}
 use Rattle.gp_text.specs.Spaces.{kept}
 use Rattle.gp_text.proofs.Steps.{function_step, functions_over, walk_push, walk_stay, walk_over}
 use Rattle.gp_text.proofs.build.functions.Goals as goal

@@ -1,4 +1,4 @@
-use Rattle.std.proofs.Common.{◌∙◌, refl, arith}
+use Rattle.std.proofs.Common.{◌∙◌, arith}
 use Rattle.gp_text.proofs.Steps.{mutex_step, mutexes_over, walk_push, walk_stay, walk_over}
 use Rattle.gp_text.proofs.build.mutexes.Goals as goal
 use Rattle.gp_text.proofs.build.mutexes.Goals.{in-Some+in_ok-push, in_default}
