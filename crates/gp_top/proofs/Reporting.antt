@@ -1,6 +1,5 @@
 -- What a report tells of the journal of a run.
-use Rattle.std.proofs.Common.{◌≡◌, ℕ, ◌+◌, List, [], ◌∷◌, ◌++◌, length, map, refl, sym, ap, ◌∙◌}
-use Rattle.gp_stack.specs.declared.record.Record.{Record as Row}
+use Rattle.std.proofs.Common.{◌≡◌, ℕ, List, [], ◌∷◌, ◌++◌, length, map, refl, ap, ◌∙◌}
 use Rattle.gp_machine.specs.declared.entry.Entry.{Entry}
 use Rattle.gp_machine.specs.declared.entry.Entry.TheVariants.{Open, Refuse, Record, Close}
 use Rattle.gp_machine.specs.declared.settings.Settings.{Settings}

@@ -1,12 +1,12 @@
 -- Files that are put one after another.
-use Rattle.std.proofs.Common.{◌≡◌, ◌<◌, ◌≤◌, ◌+◌, ℕ, zero, suc, List, [], ◌∷◌, ◌++◌, length, take, get_or, Option, Some, None, refl, sym, ap, ◌∙◌, subst, arith}
+use Rattle.std.proofs.Common.{◌≡◌, ◌<◌, ◌≤◌, ◌+◌, ℕ, zero, suc, List, [], ◌∷◌, ◌++◌, length, take, get_or, Option, Some, None, refl, sym, ap, ◌∙◌, arith}
 use Rattle.std.proofs.lemmas.List.{take_more, take_all}
 use Rattle.gp_io.specs.Outside.{File, with_file, Puts, KeepsOthers}
 use Rattle.gp_isa.specs.declared.parts.Parts.{Parts}
 use Rattle.gp_stack.specs.declared.record.Record.{Record as Row}
 use Rattle.gp_wire.specs.Canonical.{canon}
 use Rattle.gp_build.specs.Profile.{goroutine_profile_of}
-use Rattle.gp_top.specs.Files.{profile_name, profiles_from, files_of, with_files, Gains, GainsSome, FailsAtNext}
+use Rattle.gp_top.specs.Files.{profile_name, profiles_from, files_of, with_files, Gains, FailsAtNext}
 
 -- one file more
 with_more : (held : List File) (files : List File) (file : File) → with_files held (files ++ file ∷ []) ≡ with_file (with_files held files) file.0 file.1

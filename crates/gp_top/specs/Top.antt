@@ -1,6 +1,6 @@
 -- What the top call promises, in the words of its clauses.
-use Rattle.std.specs.Prelude.{◌≡◌, ◌≢◌, ◌<◌, ◌≤◌, ◌⊎◌, ℕ, List, length, drop, Option, Some, None, IfSome}
-use Rattle.gp_io.specs.Outside.{File, Rose}
+use Rattle.std.specs.Prelude.{◌≡◌, ◌≢◌, ◌<◌, ◌≤◌, ◌⊎◌, ℕ, List, length, drop, Option, Some, IfSome}
+use Rattle.gp_io.specs.Outside.{File}
 use Rattle.gp_isa.specs.declared.parts.Parts.{Parts}
 use Rattle.gp_machine.specs.declared.settings.Settings.{Settings}
 use Rattle.gp_text.specs.declared.cause.Cause.{Cause}

@@ -21,4 +21,3 @@ pub use top::{Outcome, plain_top};
 
 #[cfg(test)]
 mod tests;
-

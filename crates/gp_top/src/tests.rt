@@ -62,7 +62,8 @@ const STUCK: &str = "chan c 0\nfunc main {\nspawn f\nrecv c\n}\nfunc f {\nrecv c
 
 const LONG: &str = "func main {\nwork 20000\n}\n";
 
-const CONTENDED: &str = "mutex m\nchan d 2\nfunc main {\nspawn b\nspawn b\nlock m\nwork 1002\nunlock m\nrecv d\nrecv d\n}\nfunc b {\nlock m\nunlock m\nsend d\n}\n";
+const CONTENDED: &str =
+    "mutex m\nchan d 2\nfunc main {\nspawn b\nspawn b\nlock m\nwork 1002\nunlock m\nrecv d\nrecv d\n}\nfunc b {\nlock m\nunlock m\nsend d\n}\n";
 
 const UNLOCKED: &str = "mutex m\nfunc main {\nwork 3\nunlock m\n}\n";
 
@@ -110,16 +111,7 @@ const ROWS: [Row<'static>; 15] = [
     },
     Row {
         text: SPAWN,
-        words: &[
-            "--workers",
-            "1",
-            "--at",
-            "1",
-            "--room",
-            "2",
-            "--cells",
-            "1",
-        ],
+        words: &["--workers", "1", "--at", "1", "--room", "2", "--cells", "1"],
         status: status::FAULT,
         entries: 5,
         ticks: 0,
@@ -359,7 +351,11 @@ fn tells<A: Abort>(rt: &A, row: &Row<'_>, report: &Report) {
     assert_eq!(rt; report.journal.len(), row.entries);
     let ticks = report.journal.iter().filter(|made| is_tick(made)).count();
     assert_eq!(rt; ticks, row.ticks);
-    assert_eq!(rt; report.done.iter().sum::<u64>(), row.instructions);
+    let mut instructions = 0_u64;
+    for done in report.done.as_slice() {
+        instructions = instructions.saturating_add(*done);
+    }
+    assert_eq!(rt; instructions, row.instructions);
     assert_eq!(rt; report.ended, row.ended);
     assert_eq!(rt; report.born, row.born);
     assert_eq!(rt; report.live, row.live);
@@ -410,14 +406,7 @@ const WOKEN_ENTRIES: [Entry; 16] = [
 // Goroutine 1 was woken between the Open and its Record, and still stands where it received.
 #[test]
 fn one_that_was_woken_since_is_shown_where_it_was(rt: HostRuntime) -> Result<(), Fail> {
-    let words = [
-        "--workers",
-        "1",
-        "--at",
-        "1001",
-        "--picks",
-        "0,0,0,1,1",
-    ];
+    let words = ["--workers", "1", "--at", "1001", "--picks", "0,0,0,1,1"];
     let (outcome, _, _) = run(rt.alloc(), &words, WOKEN, &[], &[])
         .ok()
         .ok_or("memory")?;
@@ -454,11 +443,13 @@ fn a_stack_of_forty_frames_is_cut_behind_thirty_two(rt: HostRuntime) -> Result<(
     let records = report.goroutine_records.get(0).ok_or("no profile")?;
     let record = records.get(0).ok_or("no record")?;
     assert_eq!(rt; record.stack.len(), 32);
-    let mut function = 39;
+    let mut function = 39_u32;
     for frame in record.stack.iter() {
         assert_eq!(rt; frame.function, function);
-        assert_eq!(rt; frame.line, 3 * function + 2);
-        function -= 1;
+        // function ci has its statement on line 3i + 2
+        assert_eq!(rt; frame.line / 3, function);
+        assert_eq!(rt; frame.line % 3, 2);
+        function = function.saturating_sub(1);
     }
     Ok(())
 }

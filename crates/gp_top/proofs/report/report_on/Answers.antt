@@ -1,7 +1,5 @@
-use Rattle.std.proofs.Common.{◌≡◌, sym, ap, ◌∙◌, subst}
-use Rattle.gp_isa.specs.declared.parts.Parts.{Parts}
+use Rattle.std.proofs.Common.{ap, ◌∙◌}
 use Rattle.gp_machine.specs.State.{code_of}
-use Rattle.gp_sim.specs.Profiles.{AreFrozen}
 use Rattle.gp_sim.proofs.Recorded.{records_are_frozen}
 use Rattle.gp_top.specs.Report.{refusals as refused_of}
 use Rattle.gp_top.proofs.Reporting.{are_recorded}

@@ -1,7 +1,6 @@
-use Rattle.std.proofs.Common.{◌≡◌, [], sym, ap, ◌∙◌, Err, arith}
+use Rattle.std.proofs.Common.{[], sym, ap, ◌∙◌, Err, arith}
 use Rattle.std.proofs.lemmas.Result.{err_from_is_err_and}
 use Rattle.std.proofs.lemmas.List.{get_or_read}
-use Rattle.gp_top.specs.Files.{Gains}
 use Rattle.gp_top.proofs.Loading.{same_err}
 use Rattle.gp_top.proofs.Saving.{goes_on, stops, all_files}
 use Rattle.gp_top.proofs.save.put_profiles.Goals as goal
