@@ -11,7 +11,7 @@ use Rattle.gp_isa.specs.declared.statement.Stmt.{Stmt}
 use Rattle.gp_isa.specs.declared.statement.What.TheOpen.{Work, Call, Loop, Send, Recv, Lock, Unlock, Spawn, Labels}
 use Rattle.gp_isa.specs.Statement.{Action, action_of}
 use Rattle.gp_isa.specs.Calls.{calls_of, calls_in, callees}
-use Rattle.gp_isa.specs.Limits.{IsAction, AreStatements, AreInLimits}
+use Rattle.gp_isa.specs.InLimits.{IsAction, AreStatements, AreInLimits}
 use Rattle.gp_isa.specs.Trace.{body_of}
 use Rattle.gp_isa.specs.Ways.{is_among, marked, AreCalls}
 use Rattle.gp_isa.proofs.Tables.{body_of-within, body_of-past}

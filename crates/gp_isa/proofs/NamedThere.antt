@@ -7,7 +7,7 @@ use Rattle.gp_isa.specs.declared.parts.Function.{Function}
 use Rattle.gp_isa.specs.declared.parts.Parts.{Parts}
 use Rattle.gp_isa.specs.declared.statement.Stmt.{Stmt}
 use Rattle.gp_isa.specs.declared.statement.What.TheOpen.{Work, Call, Loop, Send, Recv, Lock, Unlock, Spawn, Labels}
-use Rattle.gp_isa.specs.Limits.{IsAction, AreStatements, AreInLimits}
+use Rattle.gp_isa.specs.InLimits.{IsAction, AreStatements, AreInLimits}
 use Rattle.gp_isa.specs.Statement.{Action, action_of, line_of}
 use Rattle.gp_isa.specs.Trace.{Instruction, Local, Point, point_at, called_at, repeated, points_at, points_of_body, body_of, trace_within, trace}
 use Rattle.gp_isa.specs.Names.{IsThere, AreThere, TracesNameWhatIsThere}

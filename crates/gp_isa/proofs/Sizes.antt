@@ -4,7 +4,7 @@ use Rattle.std.proofs.lemmas.Bool.{cases_lt}
 use Rattle.std.proofs.lemmas.List.{length-map, length-replicate}
 use Rattle.std.proofs.lemmas.Nat.{mul-le}
 use Rattle.gp_isa.specs.declared.size.Size.{Size}
-use Rattle.gp_isa.specs.Calls.{longest}
+use Rattle.gp_isa.specs.Limits.{most_points}
 use Rattle.gp_isa.specs.Trace.{Point, Local, point_at, called_at, repeated}
 use Rattle.gp_isa.specs.Size.{most_frames, size_of}
 
@@ -12,14 +12,14 @@ abbrev sized : ℕ → ℕ → Size
 sized points frames = record { points = points; frames = frames }
 
 abbrev capped : ℕ → ℕ
-capped n = min n (longest + 1)
+capped n = min n (most_points + 1)
 
 pub most_frames-append : (points more : List Point) → most_frames (points ++ more) ≡ max (most_frames points) (most_frames more)
 most_frames-append [] more = omega arith
 most_frames-append (p ∷ points) more = omega (arith, most_frames-append points more)
 
 pub size_of-append : (points more : List Point) (a b : Size) → a ≡ size_of points → b ≡ size_of more → (n m : ℕ) →
-    n ≡ min (min (a.points + b.points) (2 ^ 64 - 1)) (longest + 1) → m ≡ max a.frames b.frames → sized n m ≡ size_of (points ++ more)
+    n ≡ min (min (a.points + b.points) (2 ^ 64 - 1)) (most_points + 1) → m ≡ max a.frames b.frames → sized n m ≡ size_of (points ++ more)
 size_of-append points more a b here next n m en em =
     ap₂ sized (omega (arith, en, ap (λ (s : Size). s.points) here, ap (λ (s : Size). s.points) next, length-append points more))
     (em ∙ ap₂ max (ap (λ (s : Size). s.frames) here) (ap (λ (s : Size). s.frames) next) ∙ sym (most_frames-append points more))
@@ -54,24 +54,24 @@ most_frames-repeated zero points = most_frames-append points [] ∙ omega arith
 most_frames-repeated (suc n) points = most_frames-append points (repeated (suc n) points) ∙ omega (arith, most_frames-repeated n points)
 
 -- a product with a number that was cut off is cut off alike
-capped_product : (n len : ℕ) → min (min (capped len * n) (2 ^ 64 - 1)) (longest + 1) ≡ capped (n * len)
-capped_product n len = at n (cases_lt (longest + 1) len)
+capped_product : (n len : ℕ) → min (min (capped len * n) (2 ^ 64 - 1)) (most_points + 1) ≡ capped (n * len)
+capped_product n len = at n (cases_lt (most_points + 1) len)
   where
-    at : (n : ℕ) → (longest + 1 < len) ⊎ (len ≤ longest + 1) → min (min (capped len * n) (2 ^ 64 - 1)) (longest + 1) ≡ capped (n * len)
-    at n (inr few) = let whole : capped len ≡ len = omega arith in ap (λ m. min (min (m * n) (2 ^ 64 - 1)) (longest + 1)) whole ∙ omega arith
+    at : (n : ℕ) → (most_points + 1 < len) ⊎ (len ≤ most_points + 1) → min (min (capped len * n) (2 ^ 64 - 1)) (most_points + 1) ≡ capped (n * len)
+    at n (inr few) = let whole : capped len ≡ len = omega arith in ap (λ m. min (min (m * n) (2 ^ 64 - 1)) (most_points + 1)) whole ∙ omega arith
     at zero (inl many) = omega arith
     at (suc n) (inl many) =
-        let whole : capped len ≡ longest + 1 = omega arith in
-        ap (λ m. min (min (m * suc n) (2 ^ 64 - 1)) (longest + 1)) whole ∙ omega (arith, mul-le n (longest + 1) n len (omega arith) (omega arith))
+        let whole : capped len ≡ most_points + 1 = omega arith in
+        ap (λ m. min (min (m * suc n) (2 ^ 64 - 1)) (most_points + 1)) whole ∙ omega (arith, mul-le n (most_points + 1) n len (omega arith) (omega arith))
 
 pub size_of-repeated : (n : ℕ) (points : List Point) (a : Size) → a ≡ size_of points → (m : ℕ) →
-    m ≡ min (min (a.points * n) (2 ^ 64 - 1)) (longest + 1) → (n ≡ 0 → ⊥) → sized m a.frames ≡ size_of (repeated n points)
+    m ≡ min (min (a.points * n) (2 ^ 64 - 1)) (most_points + 1) → (n ≡ 0 → ⊥) → sized m a.frames ≡ size_of (repeated n points)
 size_of-repeated zero points a here m em some = absurd (some refl)
 size_of-repeated (suc n) points a here m em some =
-    ap₂ sized (em ∙ ap (λ (s : Size). min (min (s.points * suc n) (2 ^ 64 - 1)) (longest + 1)) here ∙ capped_product (suc n) (length points) ∙ ap capped (sym (length-repeated (suc n) points)))
+    ap₂ sized (em ∙ ap (λ (s : Size). min (min (s.points * suc n) (2 ^ 64 - 1)) (most_points + 1)) here ∙ capped_product (suc n) (length points) ∙ ap capped (sym (length-repeated (suc n) points)))
     (ap (λ (s : Size). s.frames) here ∙ sym (most_frames-repeated n points))
 
-pub size_of-repeated_none : (points : List Point) (m n : ℕ) (a : Size) → m ≡ min (min (a.points * n) (2 ^ 64 - 1)) (longest + 1) → n ≡ 0 →
+pub size_of-repeated_none : (points : List Point) (m n : ℕ) (a : Size) → m ≡ min (min (a.points * n) (2 ^ 64 - 1)) (most_points + 1) → n ≡ 0 →
     sized m 0 ≡ size_of (repeated n points)
 size_of-repeated_none points m zero a em none = ap₂ sized (omega (arith, em)) refl
 size_of-repeated_none points m (suc n) a em none = absurd (omega arith)

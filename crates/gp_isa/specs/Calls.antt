@@ -7,6 +7,7 @@ use Rattle.gp_isa.specs.declared.parts.Parts.{Parts}
 use Rattle.gp_isa.specs.declared.statement.Stmt.{Stmt}
 use Rattle.gp_isa.specs.declared.statement.What.TheOpen.{Call, Loop}
 use Rattle.gp_isa.specs.Statement.{Action, action_of}
+use Rattle.gp_isa.specs.Limits.{most_loops, most_points}
 use Rattle.gp_isa.specs.Checked.{main_of, first_empty}
 use Rattle.gp_isa.specs.Trace.{body_of, points_of, trace_within, trace}
 
@@ -23,7 +24,7 @@ calls_in (suc deep) body = flat_map (λ s. calls_of (calls_in deep) (action_of s
 
 -- the functions that function f calls
 abbrev pub callees : Parts → ℕ → List ℕ
-callees parts f = calls_in 8 (body_of parts f)
+callees parts f = calls_in most_loops (body_of parts f)
 
 -- whether f calls h, directly or through at most `steps` others
 unfoldable pub reaches : Parts → ℕ → ℕ → ℕ → Bool
@@ -43,13 +44,9 @@ first_from test from (suc n) = elim (test from) as (λ _. Option ℕ) [ true ↦
 abbrev pub first_recursive : Parts → Option ℕ
 first_recursive parts = first_from (is_recursive parts) 0 (length parts.functions)
 
--- the most points of a trace
-abbrev pub longest : ℕ
-longest = 2 ^ 40
-
 -- the first function whose trace is too long
 abbrev pub first_too_long : Parts → Option ℕ
-first_too_long parts = first_from (λ f. nat_lt longest (length (trace parts f))) 0 (length parts.functions)
+first_too_long parts = first_from (λ f. nat_lt most_points (length (trace parts f))) 0 (length parts.functions)
 
 -- What a checked program is: main is there, no body is empty, no function can call itself, and no trace is too long.
 pub record IsProgram (parts : Parts) : Type 0 where

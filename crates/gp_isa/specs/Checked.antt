@@ -5,6 +5,7 @@ use Rattle.std.specs.Str.{bytes_eq}
 use Rattle.gp_isa.specs.declared.parts.Parts.{Parts}
 use Rattle.gp_isa.specs.declared.statement.Stmt.{Stmt}
 use Rattle.gp_isa.specs.declared.statement.What.TheOpen.{Loop}
+use Rattle.gp_isa.specs.Limits.{most_loops}
 use Rattle.gp_isa.specs.Statement.{Action, action_of}
 
 -- the number of the function `main`, where there is one
@@ -27,4 +28,4 @@ lacks_statement (suc deep) body = is_nil body || list_any (λ s. loop_lacks (lac
 
 -- the first function in which it or one of its loops has no statement
 abbrev pub first_empty : Parts → Option ℕ
-first_empty parts = position (λ f. lacks_statement 8 f.body) parts.functions
+first_empty parts = position (λ f. lacks_statement most_loops f.body) parts.functions

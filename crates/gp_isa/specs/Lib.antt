@@ -1,6 +1,7 @@
+pub mod Limits
 pub mod Statement
 pub mod Trace
-pub mod Limits
+pub mod InLimits
 pub mod Checked
 pub mod Calls
 pub mod Size

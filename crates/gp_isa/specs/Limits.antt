@@ -1,73 +1,118 @@
--- The limits of a program's parts, and what its statements may name. How long a trace may be isn't said here.
-use Rattle.std.specs.Prelude.{◌≡◌, ◌≤◌, ◌<◌, ◌+◌, ℕ, zero, suc, List, length, map, All, slice_index_or}
-use Rattle.std.specs.List.{IsDistinct}
-use Rattle.std.specs.Str.{bytes_eq}
-use Rattle.std.specs.Ordering.{nat_cmp}
-use Rattle.std.specs.Cmp.Lexicographic.{slice_cmp}
-use Rattle.std.specs.declared.cmp.Ordering.TheVariants.{Less}
-use Rattle.gp_isa.specs.declared.parts.Parts.{Parts}
-use Rattle.gp_isa.specs.declared.parts.Function.{Function}
-use Rattle.gp_isa.specs.declared.parts.ChannelDecl.{ChannelDecl}
-use Rattle.gp_isa.specs.declared.parts.MutexDecl.{MutexDecl}
-use Rattle.gp_isa.specs.declared.parts.LabelSet.{LabelSet}
-use Rattle.gp_isa.specs.declared.parts.Pair.{Pair}
-use Rattle.gp_isa.specs.declared.statement.Stmt.{Stmt}
-use Rattle.gp_isa.specs.declared.statement.What.TheOpen.{Work, Call, Loop, Send, Recv, Lock, Unlock, Spawn, Labels}
-use Rattle.gp_isa.specs.Statement.{Action, action_of}
+-- The limits, each a plain number in its unit. Definitions and clauses of all crates cite them by these names.
+use Rattle.std.specs.Prelude.{ℕ, ◌^◌}
 
--- the names of one space: each at most 64 bytes long, and no two alike
-pub record AreNames (names : List (List ℕ)) : Type 0 where
-  pub short : All (λ name. length name ≤ 64) names
-  pub distinct : IsDistinct bytes_eq names
+-- Of a program file: its bytes.
+abbrev pub file_bytes : ℕ
+file_bytes = 1048576
 
--- a pair of a label set, its key of 1 to 64 bytes, its value of at most 64
-pub record IsPair (pair : Pair) : Type 0 where
-  pub named : 1 ≤ length pair.key
-  pub key : length pair.key ≤ 64
-  pub value : length pair.value ≤ 64
+-- the bytes of a name, of a label's key and of its value
+abbrev pub name_bytes : ℕ
+name_bytes = 64
 
--- the keys rise byte by byte, so that none stands twice
-abbrev pub KeysRise : List Pair → Type 0
-KeysRise pairs = (k : ℕ) (d : Pair) → k + 1 < length pairs → slice_cmp nat_cmp (slice_index_or pairs k d).key (slice_index_or pairs (k + 1) d).key ≡ Less
+-- the digits of a number
+abbrev pub number_digits : ℕ
+number_digits = 20
 
--- The pairs of a label set, at most 16.
-pub record ArePairs (pairs : List Pair) : Type 0 where
-  pub few : length pairs ≤ 16
-  pub each : All IsPair pairs
-  pub rising : KeysRise pairs
+-- the functions, channels, mutexes and label sets that are declared
+abbrev pub most_functions : ℕ
+most_functions = 256
 
--- Counts are at least 1, and what a statement names is there. `Within` says what a loop's body has to be.
-abbrev pub IsAction : Parts → (List Stmt → Type 0) → Action → Type 0
-IsAction parts Within (Work n) = 1 ≤ n
-IsAction parts Within (Call f) = f < length parts.functions
-IsAction parts Within (Loop n body end) = (1 ≤ n) × Within body
-IsAction parts Within (Send c) = c < length parts.channels
-IsAction parts Within (Recv c) = c < length parts.channels
-IsAction parts Within (Lock m) = m < length parts.mutexes
-IsAction parts Within (Unlock m) = m < length parts.mutexes
-IsAction parts Within (Spawn f) = f < length parts.functions
-IsAction parts Within (Labels s) = (1 ≤ s) × (s ≤ length parts.labels)
+abbrev pub most_channels : ℕ
+most_channels = 1024
 
--- the statements of a body in which loops stand at most `deep` inside each other
-abbrev pub AreStatements : Parts → ℕ → List Stmt → Type 0
-AreStatements parts zero body = All (λ s. IsAction parts (λ _. ⊥) (action_of s)) body
-AreStatements parts (suc deep) body = All (λ s. IsAction parts (AreStatements parts deep) (action_of s)) body
+abbrev pub most_mutexes : ℕ
+most_mutexes = 1024
 
--- the statements of a loop's body, which there is none where no loop may stand
-abbrev pub AreInside : Parts → ℕ → List Stmt → Type 0
-AreInside parts zero body = ⊥
-AreInside parts (suc deep) body = AreStatements parts deep body
+abbrev pub most_label_sets : ℕ
+most_label_sets = 255
 
--- The parts of a program file lie in its limits.
-pub record AreInLimits (parts : Parts) : Type 0 where
-  pub functions : length parts.functions ≤ 256
-  pub function_names : AreNames (map (λ (f : Function). f.name) parts.functions)
-  pub statements : All (λ f. AreStatements parts 8 f.body) parts.functions
-  pub channels : length parts.channels ≤ 1024
-  pub channel_names : AreNames (map (λ (c : ChannelDecl). c.name) parts.channels)
-  pub capacities : All (λ c. c.capacity ≤ 65535) parts.channels
-  pub mutexes : length parts.mutexes ≤ 1024
-  pub mutex_names : AreNames (map (λ (m : MutexDecl). m.name) parts.mutexes)
-  pub labels : length parts.labels ≤ 255
-  pub label_names : AreNames (map (λ (l : LabelSet). l.name) parts.labels)
-  pub pairs : All (λ l. ArePairs l.pairs) parts.labels
+-- the pairs of a label set
+abbrev pub most_pairs : ℕ
+most_pairs = 16
+
+-- the values that a channel holds
+abbrev pub most_capacity : ℕ
+most_capacity = 65535
+
+-- the instructions of one `work`, and the turns of one `loop`
+abbrev pub most_count : ℕ
+most_count = 4294967295
+
+-- the loops that stand inside each other
+abbrev pub most_loops : ℕ
+most_loops = 8
+
+-- the points of a trace
+abbrev pub most_points : ℕ
+most_points = 2 ^ 40
+
+-- Of a run's options: workers, and cells, which are the goroutines that may be born.
+abbrev pub most_workers : ℕ
+most_workers = 16
+
+abbrev pub most_cells : ℕ
+most_cells = 16384
+
+-- the goroutine profiles that are asked for, and the records that one has room for
+abbrev pub most_requests : ℕ
+most_requests = 8
+
+abbrev pub most_room : ℕ
+most_room = 16384
+
+-- the clock of an instant at which a profile is asked for, in instructions
+abbrev pub most_instant : ℕ
+most_instant = 2 ^ 40
+
+-- the entries at which a journal is full
+abbrev pub least_entries : ℕ
+least_entries = 16
+
+abbrev pub most_entries : ℕ
+most_entries = 4194304
+
+-- Ticks: a worker's samples a second lie so that a second's instructions, 1,000 nanoseconds each, are a multiple.
+abbrev pub instructions_per_second : ℕ
+instructions_per_second = 1000000
+
+-- the block profile's rate, and the mutex profile's fraction
+abbrev pub most_block_rate : ℕ
+most_block_rate = 1
+
+abbrev pub most_mutex_fraction : ℕ
+most_mutex_fraction = 1000000000
+
+-- the words of the ring of CPU samples, and its tags
+abbrev pub least_ring_words : ℕ
+least_ring_words = 16
+
+abbrev pub most_ring_words : ℕ
+most_ring_words = 1048576
+
+abbrev pub most_tags : ℕ
+most_tags = 1048576
+
+-- the numbers of `--picks`
+abbrev pub most_picks : ℕ
+most_picks = 100000
+
+-- The quantum: the instructions that a goroutine runs before it makes way.
+abbrev pub quantum : ℕ
+quantum = 1000
+
+-- the nanoseconds that an instruction counts as
+abbrev pub instruction_time : ℕ
+instruction_time = 1000
+
+-- The frames of a stack in each profile, from the leaf on.
+abbrev pub goroutine_frames : ℕ
+goroutine_frames = 32
+
+abbrev pub block_frames : ℕ
+block_frames = 32
+
+abbrev pub mutex_frames : ℕ
+mutex_frames = 32
+
+abbrev pub cpu_frames : ℕ
+cpu_frames = 64

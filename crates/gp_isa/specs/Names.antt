@@ -1,7 +1,7 @@
 -- What points name is there.
 use Rattle.std.specs.Prelude.{◌≡◌, ◌≤◌, ◌<◌, ℕ, List, [], length, All}
 use Rattle.gp_isa.specs.declared.parts.Parts.{Parts}
-use Rattle.gp_isa.specs.Limits.{AreInLimits}
+use Rattle.gp_isa.specs.InLimits.{AreInLimits}
 use Rattle.gp_isa.specs.Trace.{Instruction, Local, Labels, Send, Recv, Lock, Unlock, Spawn, Point, trace}
 
 -- What an instruction names is there: a channel, a mutex, a function, or a label set, of which 0 is the empty one.

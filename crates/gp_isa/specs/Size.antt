@@ -3,7 +3,7 @@ use Rattle.std.specs.Prelude.{◌≡◌, ◌+◌, ℕ, zero, suc, max, min, List
 use Rattle.gp_isa.specs.declared.parts.Parts.{Parts}
 use Rattle.gp_isa.specs.declared.size.Size.{Size}
 use Rattle.gp_isa.specs.declared.statement.Stmt.{Stmt}
-use Rattle.gp_isa.specs.Calls.{longest}
+use Rattle.gp_isa.specs.Limits.{most_points}
 use Rattle.gp_isa.specs.Trace.{Point, points_of_body, trace}
 
 -- the most frames of a stack of the points
@@ -23,7 +23,7 @@ depth_of parts = most_frames_below (trace parts) (length parts.functions)
 
 -- What is kept of points: how many they are, where more than the limit are all one, and the most frames of a stack.
 abbrev pub size_of : List Point → Size
-size_of points = record { points = min (length points) (longest + 1); frames = most_frames points }
+size_of points = record { points = min (length points) (most_points + 1); frames = most_frames points }
 
 -- A table has the size of each function's points; past its end there are none.
 pub record AreSizes (sizes : List Size) (calls : ℕ → List Point) : Type 0 where

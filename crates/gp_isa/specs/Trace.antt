@@ -6,6 +6,7 @@ use Rattle.gp_isa.specs.declared.frame.Frame.{Frame}
 use Rattle.gp_isa.specs.declared.parts.Parts.{Parts}
 use Rattle.gp_isa.specs.declared.statement.Stmt.{Stmt}
 use Rattle.gp_isa.specs.declared.statement.What.TheOpen.{Work, Call, Loop, Send as SendStatement, Recv as RecvStatement, Lock as LockStatement, Unlock as UnlockStatement, Spawn as SpawnStatement, Labels as LabelsStatement}
+use Rattle.gp_isa.specs.Limits.{most_loops}
 use Rattle.gp_isa.specs.Statement.{Action, action_of, line_of}
 
 -- What is done at a point: an instruction of work, or that the goroutine's labels become a set; these two are
@@ -73,9 +74,9 @@ body_of parts f = elim (slice_get parts.functions f) as (λ _. List Stmt) [
   | None ↦ []
 ]
 
--- the points of function f, where `calls` gives those of the functions that it calls; loops stand at most 8 deep
+-- the points of function f, where `calls` gives those of the functions that it calls; loops stand at most so deep
 abbrev pub points_of : Parts → (ℕ → List Point) → ℕ → List Point
-points_of parts calls f = points_of_body calls f 8 (body_of parts f)
+points_of parts calls f = points_of_body calls f most_loops (body_of parts f)
 
 -- the points of function f, with calls followed `depth` deep
 unfoldable pub trace_within : Parts → ℕ → ℕ → List Point

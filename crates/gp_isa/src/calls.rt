@@ -1,12 +1,13 @@
 ghost use Rattle.std.specs.Prelude.{◌≡◌, ◌<◌, ◌-◌, ◌+◌, ◌≤◌, ℕ, ◌||◌, List, [], length, All, IfOk, IfSome, slice_index_or};
-ghost use Rattle.gp_isa.specs.Limits.{AreInLimits};
+ghost use Rattle.gp_isa.specs.InLimits.{AreInLimits};
 ghost use Rattle.gp_isa.specs.Statement.{action};
 ghost use Rattle.gp_isa.specs.Calls.{calls_of, calls_in, callees, first_from, first_recursive};
 ghost use Rattle.gp_isa.specs.Ways.{calls_inside, is_among, marked, AddsMarks, AreCalls, GoThrough, AreLeads};
 
+use crate::limits;
 use crate::memory::Memory;
 use crate::parts::Parts;
-use crate::statement::{NESTING, Stmt, What};
+use crate::statement::{Stmt, What};
 use std::alloc::Global;
 
 /// A mark for each function, of which there are 256 at most.
@@ -52,7 +53,7 @@ fn call_row(body: &[Stmt]) -> Row
     ensures { (h : ℕ) → marked result h ≡ is_among h (calls_in 8 body.now) }
 {
     let mut row = [false; 256];
-    mark_calls(body, NESTING, &mut row);
+    mark_calls(body, limits::LOOPS, &mut row);
     row
 }
 

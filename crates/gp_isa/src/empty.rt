@@ -2,8 +2,9 @@ ghost use Rattle.std.specs.Prelude.{◌≡◌, ◌<◌, ◌-◌, length, IfSome}
 ghost use Rattle.gp_isa.specs.Statement.{action};
 ghost use Rattle.gp_isa.specs.Checked.{lacks_statement, loop_lacks, first_empty};
 
+use crate::limits;
 use crate::parts::Parts;
-use crate::statement::{NESTING, Stmt, What};
+use crate::statement::{Stmt, What};
 
 // Whether a body, or that of a loop in it, has no statement, where loops stand at most `deep` inside each other.
 #[cycle(bare)]
@@ -51,5 +52,5 @@ pub fn empty_place(parts: &Parts) -> Option<usize>
     parts
         .functions
         .iter()
-        .position(|f| is_bare(f.body.as_slice(), NESTING))
+        .position(|f| is_bare(f.body.as_slice(), limits::LOOPS))
 }

@@ -2,7 +2,7 @@
 //!
 //! A file declares functions, channels, mutexes and label sets (`Parts`), each named in statements by its place in its
 //! list, label sets counted from 1. Statements are a tree: a loop holds statements, at most eight loops deep.
-//! `Parts::in_limits` tells whether parts lie in their limits (`specs/Limits.antt`). `check` takes such parts and gives
+//! `Parts::in_limits` tells whether parts lie in their limits (`specs/InLimits.antt`). `check` takes such parts and gives
 //! a `Program` (`specs/Calls.antt`): the function `main` is there, no function and no loop is empty, no function can
 //! call itself, and no trace has more than 2^40 points.
 //!
@@ -22,8 +22,9 @@ mod bad;
 mod calls;
 mod empty;
 mod frame;
+mod in_limits;
 mod laws;
-mod limits;
+pub mod limits;
 mod memory;
 mod parts;
 mod program;

@@ -1,177 +1,139 @@
-ghost use Rattle.std.specs.Prelude.{◌≡◌, ◌≤◌, ◌<◌, ◌↔◌, ℕ, List, length, map, All, IsTrue, slice_index_or};
-ghost use Rattle.std.specs.List.{list_any};
-ghost use Rattle.std.specs.Str.{bytes_eq};
-ghost use Rattle.gp_isa.specs.Statement.{action};
-ghost use Rattle.gp_isa.specs.Limits.{AreNames, IsPair, ArePairs, KeysRise, IsAction, AreStatements, AreInside, AreInLimits};
+ghost use Rattle.std.specs.Prelude.{◌≡◌};
+ghost use Rattle.gp_isa.specs.Limits as limit;
 
-use crate::parts::{ChannelDecl, Function, LabelSet, MutexDecl, Pair, Parts};
-use crate::statement::{NESTING, Stmt, What};
-use crate::text::Text;
-use std::cmp::Ordering;
+/// The most bytes of a program file.
+pub const FILE_BYTES: usize = 1_048_576;
 
-/// The most bytes of a name, a key or a value.
-const LONGEST_NAME: usize = 64;
+/// The most bytes of a name, of a label's key and of its value.
+pub const NAME_BYTES: usize = 64;
 
-/// What has a name.
-trait Named {
-    ghost name_of: { Self → List ℕ };
+/// The most digits of a number in a file or among the command words.
+pub const NUMBER_DIGITS: usize = 20;
 
-    fn name(&self) -> &Text
-        ensures { result.now ≡ name_of self.now };
-}
+/// The most functions of a program.
+pub const FUNCTIONS: usize = 256;
 
-impl Named for Function {
-    ghost name_of = { λ f. f.name };
+/// The most channels of a program.
+pub const CHANNELS: usize = 1024;
 
-    fn name(&self) -> &Text {
-        &self.name
-    }
-}
+/// The most mutexes of a program.
+pub const MUTEXES: usize = 1024;
 
-impl Named for ChannelDecl {
-    ghost name_of = { λ c. c.name };
+/// The most label sets of a program, the empty set 0 not counted.
+pub const LABEL_SETS: usize = 255;
 
-    fn name(&self) -> &Text {
-        &self.name
-    }
-}
+/// The most pairs of a label set.
+pub const PAIRS: usize = 16;
 
-impl Named for MutexDecl {
-    ghost name_of = { λ m. m.name };
+/// The most values that a channel holds.
+pub const CAPACITY: u32 = 65_535;
 
-    fn name(&self) -> &Text {
-        &self.name
-    }
-}
+/// The most instructions of one `work`, and turns of one `loop`.
+pub const COUNT: u32 = 4_294_967_295;
 
-impl Named for LabelSet {
-    ghost name_of = { λ l. l.name };
+/// The most loops that stand inside each other.
+pub const LOOPS: u8 = 8;
 
-    fn name(&self) -> &Text {
-        &self.name
-    }
-}
+/// The most points of a trace.
+pub const POINTS: u64 = 1 << 40;
 
-// Whether one of them has this name.
-fn has_name<N: Named>(items: &[N], name: &Text) -> bool
-    ensures { result ≡ list_any (λ item. bytes_eq name.now (N.name_of item)) items.now }
-{
-    items
-        .iter()
-        .any(|item| name.as_str() == item.name().as_str())
-}
+/// The most workers of a run.
+pub const WORKERS: u32 = 16;
 
-// Whether their names are those of one space. Each is compared with all before it.
-fn names_fit<N: Named>(items: &[N]) -> bool
-    ensures { IsTrue result ↔ AreNames (map N.name_of items.now) }
-{
-    for (at, item) in items.iter().enumerate() {
-        let name = item.name();
-        if name.len() > LONGEST_NAME || has_name(&items[..at], name) {
-            return false;
-        }
-    }
-    true
-}
+/// The most cells of a run: as many goroutines may be born.
+pub const CELLS: u32 = 16_384;
 
-fn pair_fits(pair: &Pair) -> bool
-    ensures { IsTrue result ↔ IsPair pair.now }
-{
-    (1..=LONGEST_NAME).contains(&pair.key.len()) && pair.value.len() <= LONGEST_NAME
-}
+/// The most goroutine profiles that are asked for.
+pub const REQUESTS: usize = 8;
 
-fn keys_rise(pairs: &[Pair]) -> bool
-    ensures { IsTrue result ↔ KeysRise pairs.now }
-{
-    for next in 1..pairs.len() {
-        let key = pairs[next - 1].key.as_bytes();
-        if key.cmp(pairs[next].key.as_bytes()) != Ordering::Less {
-            return false;
-        }
-    }
-    true
-}
+/// The largest room of a goroutine profile, in records.
+pub const ROOM: u32 = 16_384;
 
-fn pairs_fit(pairs: &[Pair]) -> bool
-    ensures { IsTrue result ↔ ArePairs pairs.now }
-{
-    pairs.len() <= 16 && pairs.iter().all(pair_fits) && keys_rise(pairs)
-}
+/// The highest clock at which a profile is asked for, in instructions.
+pub const INSTANT: u64 = 1 << 40;
 
-// Whether statements fit in which loops stand at most `deep` inside each other.
-#[cycle(limits)]
-fn statements_fit(parts: &Parts, body: &[Stmt], deep: u8) -> bool
-    ensures { IsTrue result ↔ AreStatements parts.now deep body.now }
-{
-    for statement in body {
-        if !action_fits(parts, &statement.what, deep) {
-            return false;
-        }
-    }
-    true
-}
+/// The fewest entries at which a journal is full.
+pub const LEAST_ENTRIES: u32 = 16;
 
-// Whether what a statement does fits.
-#[cycle(limits)]
-fn action_fits(parts: &Parts, what: &What, deep: u8) -> bool
-    ensures { IsTrue result ↔ IsAction parts.now (AreInside parts.now deep) (action what.now) }
-{
-    match what {
-        What::Work { n } => *n >= 1,
-        What::Call { f } => (*f as usize) < parts.functions.len(),
-        What::Loop { n, body, .. } => {
-            *n >= 1 && deep > 0 && statements_fit(parts, body.as_slice(), deep - 1)
-        }
-        What::Send { c } => (*c as usize) < parts.channels.len(),
-        What::Recv { c } => (*c as usize) < parts.channels.len(),
-        What::Lock { m } => (*m as usize) < parts.mutexes.len(),
-        What::Unlock { m } => (*m as usize) < parts.mutexes.len(),
-        What::Spawn { f } => (*f as usize) < parts.functions.len(),
-        What::Labels { s } => *s >= 1 && *s as usize <= parts.labels.len(),
-    }
-}
+/// The most entries at which a journal is full.
+pub const ENTRIES: u32 = 4_194_304;
 
-fn functions_fit(parts: &Parts) -> bool
-    ensures { IsTrue result ↔ ((length parts.now.functions ≤ 256) × AreNames (map (λ (f : Function). f.name) parts.now.functions) × All (λ f. AreStatements parts.now 8 f.body) parts.now.functions) }
-{
-    let functions = parts.functions.as_slice();
-    functions.len() <= 256
-        && names_fit(functions)
-        && functions
-            .iter()
-            .all(|f| statements_fit(parts, f.body.as_slice(), NESTING))
-}
+/// The instructions of a second.
+pub const INSTRUCTIONS_PER_SECOND: u32 = 1_000_000;
 
-fn channels_fit(channels: &[ChannelDecl]) -> bool
-    ensures { IsTrue result ↔ ((length channels.now ≤ 1024) × AreNames (map (λ (c : ChannelDecl). c.name) channels.now) × All (λ c. c.capacity ≤ 65535) channels.now) }
-{
-    channels.len() <= 1024 && names_fit(channels) && channels.iter().all(|c| c.capacity <= 65_535)
-}
+/// The highest rate of the block profile.
+pub const BLOCK_RATE: u32 = 1;
 
-fn mutexes_fit(mutexes: &[MutexDecl]) -> bool
-    ensures { IsTrue result ↔ ((length mutexes.now ≤ 1024) × AreNames (map (λ (m : MutexDecl). m.name) mutexes.now)) }
-{
-    mutexes.len() <= 1024 && names_fit(mutexes)
-}
+/// The highest fraction of the mutex profile.
+pub const MUTEX_FRACTION: u32 = 1_000_000_000;
 
-fn labels_fit(labels: &[LabelSet]) -> bool
-    ensures { IsTrue result ↔ ((length labels.now ≤ 255) × AreNames (map (λ (l : LabelSet). l.name) labels.now) × All (λ l. ArePairs l.pairs) labels.now) }
-{
-    labels.len() <= 255 && names_fit(labels) && labels.iter().all(|l| pairs_fit(l.pairs.as_slice()))
-}
+/// The fewest words of the ring of CPU samples.
+pub const LEAST_RING_WORDS: u32 = 16;
 
-impl Parts {
-    /// Whether the parts lie in their limits, which `check` requires: at most 256 functions, 1,024 channels of
-    /// capacities up to 65,535, 1,024 mutexes and 255 label sets; names of at most 64 bytes, no two of one list
-    /// alike; at most 16 pairs in a label set, their keys rising; counts of at least 1, loops at most eight deep,
-    /// and whatever a statement names is there. It takes no memory. Its time grows with the statements and with the
-    /// square of the names of a list, each two of which it compares.
-    pub fn in_limits(&self) -> bool
-        ensures { IsTrue result ↔ AreInLimits self.now }
-    {
-        functions_fit(self)
-            && channels_fit(self.channels.as_slice())
-            && mutexes_fit(self.mutexes.as_slice())
-            && labels_fit(self.labels.as_slice())
-    }
-}
+/// The most words of the ring of CPU samples.
+pub const RING_WORDS: u32 = 1_048_576;
+
+/// The most tags of the ring of CPU samples.
+pub const TAGS: u32 = 1_048_576;
+
+/// The most numbers of `--picks`.
+pub const PICKS: usize = 100_000;
+
+/// The quantum: the most instructions that a goroutine runs before it makes way.
+pub const QUANTUM: u64 = 1000;
+
+/// The nanoseconds that an instruction counts as.
+pub const INSTRUCTION_TIME: u64 = 1000;
+
+/// The most frames of a stack in a goroutine profile, from the leaf on.
+pub const GOROUTINE_FRAMES: u32 = 32;
+
+/// The most frames of a stack in a block profile, from the leaf on.
+pub const BLOCK_FRAMES: u32 = 32;
+
+/// The most frames of a stack in a mutex profile, from the leaf on.
+pub const MUTEX_FRAMES: u32 = 32;
+
+/// The most frames of a stack in a CPU profile, from the leaf on.
+pub const CPU_FRAMES: u32 = 64;
+
+/// The constants are the limits of the definitions (`specs/Limits.antt`): neither can change alone. These are the
+/// limits of program files.
+pub fn law_file_limits()
+    ensures file_bytes { FILE_BYTES ≡ limit.file_bytes }
+    ensures name_bytes { NAME_BYTES ≡ limit.name_bytes }
+    ensures number_digits { NUMBER_DIGITS ≡ limit.number_digits }
+    ensures functions { FUNCTIONS ≡ limit.most_functions }
+    ensures channels { CHANNELS ≡ limit.most_channels }
+    ensures mutexes { MUTEXES ≡ limit.most_mutexes }
+    ensures label_sets { LABEL_SETS ≡ limit.most_label_sets }
+    ensures pairs { PAIRS ≡ limit.most_pairs }
+    ensures capacity { CAPACITY ≡ limit.most_capacity }
+    ensures count { COUNT ≡ limit.most_count }
+    ensures loops { LOOPS ≡ limit.most_loops }
+    ensures points { POINTS ≡ limit.most_points }
+{}
+
+/// And these those of runs and of their profiles.
+pub fn law_run_limits()
+    ensures workers { WORKERS ≡ limit.most_workers }
+    ensures cells { CELLS ≡ limit.most_cells }
+    ensures requests { REQUESTS ≡ limit.most_requests }
+    ensures room { ROOM ≡ limit.most_room }
+    ensures instant { INSTANT ≡ limit.most_instant }
+    ensures least_entries { LEAST_ENTRIES ≡ limit.least_entries }
+    ensures entries { ENTRIES ≡ limit.most_entries }
+    ensures second { INSTRUCTIONS_PER_SECOND ≡ limit.instructions_per_second }
+    ensures block_rate { BLOCK_RATE ≡ limit.most_block_rate }
+    ensures mutex_fraction { MUTEX_FRACTION ≡ limit.most_mutex_fraction }
+    ensures least_ring_words { LEAST_RING_WORDS ≡ limit.least_ring_words }
+    ensures ring_words { RING_WORDS ≡ limit.most_ring_words }
+    ensures tags { TAGS ≡ limit.most_tags }
+    ensures picks { PICKS ≡ limit.most_picks }
+    ensures quantum { QUANTUM ≡ limit.quantum }
+    ensures instruction_time { INSTRUCTION_TIME ≡ limit.instruction_time }
+    ensures goroutine_frames { GOROUTINE_FRAMES ≡ limit.goroutine_frames }
+    ensures block_frames { BLOCK_FRAMES ≡ limit.block_frames }
+    ensures mutex_frames { MUTEX_FRAMES ≡ limit.mutex_frames }
+    ensures cpu_frames { CPU_FRAMES ≡ limit.cpu_frames }
+{}

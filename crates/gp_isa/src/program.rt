@@ -1,5 +1,5 @@
 ghost use Rattle.std.specs.Prelude.{◌≡◌, ◌<◌, length, IfOk, IfErr, IfSome, OnOk, Some};
-ghost use Rattle.gp_isa.specs.Limits.{AreInLimits};
+ghost use Rattle.gp_isa.specs.InLimits.{AreInLimits};
 ghost use Rattle.gp_isa.specs.Checked.{main_of};
 ghost use Rattle.gp_isa.specs.Calls.{IsProgram, IsCause};
 ghost use Rattle.gp_isa.specs.Trace.{trace};

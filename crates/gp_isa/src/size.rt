@@ -1,16 +1,15 @@
 ghost use Rattle.std.specs.Prelude.{◌≡◌, ◌<◌, ◌-◌, ◌+◌, ◌++◌, ◌^◌, ℕ, List, ◌∷◌, [], length, map, replicate, All, IfOk, IfSome, ◌≤◌, nat_lt, slice_index_or};
-ghost use Rattle.gp_isa.specs.Calls.{longest, first_from};
+ghost use Rattle.gp_isa.specs.Limits.{most_points};
+ghost use Rattle.gp_isa.specs.Calls.{first_from};
 ghost use Rattle.gp_isa.specs.Statement.{action};
 ghost use Rattle.gp_isa.specs.Trace.{Point, Instruction, Local, point_at, called_at, repeated, points_at, points_of_body, points_of, trace};
 ghost use Rattle.gp_isa.specs.Size.{size_of, AreSizes, most_frames_below, points_inside};
 
+use crate::limits;
 use crate::memory::Memory;
 use crate::parts::Parts;
-use crate::statement::{NESTING, Stmt, What};
+use crate::statement::{Stmt, What};
 use std::alloc::Global;
-
-/// The most points that a trace may have.
-pub const LONGEST: u64 = 1 << 40;
 
 /// What is kept of a list of points.
 #[derive(Clone, Copy, Debug)]
@@ -56,7 +55,10 @@ impl Size {
         ensures { (points more : List Point) → self ≡ size_of points → next ≡ size_of more → result ≡ size_of (points ++ more) }
     {
         Size {
-            points: self.points.saturating_add(next.points).min(LONGEST + 1),
+            points: self
+                .points
+                .saturating_add(next.points)
+                .min(limits::POINTS + 1),
             frames: self.frames.max(next.frames),
         }
     }
@@ -77,7 +79,7 @@ impl Size {
         ensures { (points : List Point) → self ≡ size_of points → result ≡ size_of (repeated n points) }
     {
         Size {
-            points: self.points.saturating_mul(n as u64).min(LONGEST + 1),
+            points: self.points.saturating_mul(n as u64).min(limits::POINTS + 1),
             frames: if n == 0 { 0 } else { self.frames },
         }
     }
@@ -138,7 +140,7 @@ fn deeper_sizes(alloc: Global, parts: &Parts, sizes: &[Size]) -> Result<Vec<Size
 {
     let mut deeper = Vec::new(alloc);
     for function in parts.functions.as_slice() {
-        deeper.push(body_size(function.body.as_slice(), NESTING, sizes))?;
+        deeper.push(body_size(function.body.as_slice(), limits::LOOPS, sizes))?;
     }
     Ok(deeper)
 }
@@ -159,11 +161,11 @@ pub fn trace_sizes(alloc: Global, parts: &Parts) -> Result<Vec<Size>, Memory>
 
 /// The first function whose trace is too long.
 pub fn long_place(sizes: &[Size]) -> Option<usize>
-    ensures place { result ≡ first_from (λ f. nat_lt longest (slice_index_or sizes.now f (size_of [])).points) 0 (length sizes.now) }
+    ensures place { result ≡ first_from (λ f. nat_lt most_points (slice_index_or sizes.now f (size_of [])).points) 0 (length sizes.now) }
     ensures within { IfSome result (λ f. f < length sizes.now) }
 {
     for (f, size) in sizes.iter().enumerate() {
-        if size.points > LONGEST {
+        if size.points > limits::POINTS {
             return Some(f);
         }
     }

@@ -1,8 +1,5 @@
 use sqlite_items::Items;
 
-/// Loops stand at most this deep inside each other.
-pub const NESTING: u8 = 8;
-
 /// The statements of a function or a loop, in their order.
 pub type Stmts = Items<Stmt>;
 

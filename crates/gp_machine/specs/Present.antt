@@ -2,7 +2,7 @@
 use Rattle.std.specs.Prelude.{◌≡◌, ◌+◌, ◌<◌, ◌^◌, ◌==◌, ℕ, min, List, length, get_or, map, count_by, Option, Some}
 use Rattle.gp_isa.specs.declared.parts.Parts.{Parts}
 use Rattle.gp_isa.specs.declared.parts.ChannelDecl.{ChannelDecl}
-use Rattle.gp_isa.specs.Limits.{AreInLimits}
+use Rattle.gp_isa.specs.InLimits.{AreInLimits}
 use Rattle.gp_isa.specs.Trace.{trace}
 use Rattle.gp_stack.specs.Goroutine.{local_ahead}
 use Rattle.gp_stack.specs.Peek.{operation_of, then_at}

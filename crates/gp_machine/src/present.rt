@@ -1,5 +1,5 @@
 ghost use Rattle.std.specs.Prelude.{◌≡◌, ◌<◌, ◌≤◌, ◌+◌, ◌^◌, ℕ, true, [], ◌∷◌, ◌++◌, Some, length, count_by, if◌then◌else◌, nat_lt};
-ghost use Rattle.gp_isa.specs.Limits.{AreInLimits};
+ghost use Rattle.gp_isa.specs.InLimits.{AreInLimits};
 ghost use Rattle.gp_isa.specs.Trace.{trace};
 ghost use Rattle.gp_machine.specs.Settings.{AreInRange, period};
 ghost use Rattle.gp_machine.specs.State.{code_of, State, goroutine, worker, births, live, running, is_live, is_behind};

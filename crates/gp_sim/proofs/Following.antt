@@ -9,7 +9,7 @@ use Rattle.std.specs.Str.{bytes_eq}
 use Rattle.gp_isa.specs.declared.parts.Parts.{Parts}
 use Rattle.gp_isa.specs.declared.parts.Function.{Function}
 use Rattle.gp_isa.specs.Checked.{main_of}
-use Rattle.gp_isa.specs.Limits.{AreInLimits}
+use Rattle.gp_isa.specs.InLimits.{AreInLimits}
 use Rattle.gp_isa.specs.Names.{IsThere}
 use Rattle.gp_isa.specs.Trace.{Instruction, Local, Labels, Send, Recv, Lock, Unlock, Spawn, is_local}
 use Rattle.gp_stack.specs.Body.{Progress}

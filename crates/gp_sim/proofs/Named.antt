@@ -5,7 +5,7 @@ use Rattle.std.proofs.lemmas.Bool.{cases_lt}
 use Rattle.std.proofs.lemmas.List.{get_or_past}
 use Rattle.std.proofs.lemmas.List.Elements.{All-nil, All-cons, All-head, All-tail, All-take}
 use Rattle.gp_isa.specs.declared.parts.Parts.{Parts}
-use Rattle.gp_isa.specs.Limits.{AreInLimits}
+use Rattle.gp_isa.specs.InLimits.{AreInLimits}
 use Rattle.gp_isa.specs.Names.{IsThere as Names, AreThere}
 use Rattle.gp_isa.specs.Trace.{Instruction, Local, Labels, Send, Recv, Lock, Unlock, Spawn, Point, trace}
 use Rattle.gp_isa.proofs.NamedThere.{traces_name_what_is_there}

@@ -4,7 +4,7 @@ use Rattle.std.proofs.lemmas.Bool.{leb-true}
 use Rattle.std.proofs.lemmas.List.{get_or_past, get_or_read}
 use Rattle.gp_isa.specs.declared.parts.Parts.{Parts}
 use Rattle.gp_isa.specs.Checked.{main_of}
-use Rattle.gp_isa.specs.Limits.{AreInLimits}
+use Rattle.gp_isa.specs.InLimits.{AreInLimits}
 use Rattle.gp_isa.specs.Trace.{Point, trace, is_local}
 use Rattle.gp_stack.specs.declared.record.Record.{Record as Row}
 use Rattle.gp_stack.specs.declared.statement.Operation.{Operation}

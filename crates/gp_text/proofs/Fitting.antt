@@ -13,7 +13,7 @@ use Rattle.gp_isa.specs.declared.parts.MutexDecl.{MutexDecl}
 use Rattle.gp_isa.specs.declared.parts.LabelSet.{LabelSet}
 use Rattle.gp_isa.specs.declared.statement.Stmt.{Stmt}
 use Rattle.gp_isa.specs.Statement.{action_of, action-work, action-call, action-send, action-recv, action-lock, action-unlock, action-spawn}
-use Rattle.gp_isa.specs.Limits.{AreNames, ArePairs, IsAction, AreStatements, AreInLimits}
+use Rattle.gp_isa.specs.InLimits.{AreNames, ArePairs, IsAction, AreStatements, AreInLimits}
 use Rattle.gp_text.specs.declared.verb.Verb.{Verb}
 use Rattle.gp_text.specs.declared.verb.Verb.TheVariants.{Call, Spawn, Send, Recv, Lock, Unlock}
 use Rattle.gp_text.specs.declared.space.Space.{Space}

@@ -11,7 +11,7 @@ use Rattle.gp_isa.specs.declared.parts.MutexDecl.{MutexDecl}
 use Rattle.gp_isa.specs.declared.parts.LabelSet.{LabelSet}
 use Rattle.gp_isa.specs.Checked.{main_of}
 use Rattle.gp_isa.specs.Calls.{IsProgram}
-use Rattle.gp_isa.specs.Limits.{AreInLimits}
+use Rattle.gp_isa.specs.InLimits.{AreInLimits}
 use Rattle.gp_text.specs.declared.cause.Cause.{Cause}
 use Rattle.gp_text.specs.declared.cause.Cause.TheVariants as cause
 use Rattle.gp_text.specs.declared.error.TextError.{TextError}

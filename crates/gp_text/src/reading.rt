@@ -2,7 +2,7 @@ ghost use Rattle.std.specs.Prelude.{◌≡◌, ◌<◌, ◌^◌, length, map, If
 ghost use Rattle.gp_isa.specs.declared.parts.Parts.{Parts};
 ghost use Rattle.gp_isa.specs.declared.parts.Function.{Function};
 ghost use Rattle.gp_isa.specs.Calls.{IsCause};
-ghost use Rattle.gp_isa.specs.Limits.{AreInLimits};
+ghost use Rattle.gp_isa.specs.InLimits.{AreInLimits};
 ghost use Rattle.gp_text.specs.Reading.{Gives, checked, program_of, header_line, IsRefusalOf};
 
 use crate::build::parts;

@@ -1,16 +1,16 @@
 use Rattle.std.proofs.Common.{[], length, get_or, nat_lt, sym, arith}
 use Rattle.std.proofs.lemmas.Bool.{lt-ltb}
-use Rattle.gp_isa.specs.Calls.{longest}
+use Rattle.gp_isa.specs.Limits.{most_points}
 use Rattle.gp_isa.specs.Size.{size_of}
 use Rattle.gp_isa.proofs.First.{first_from-Some, first_from-None}
 use Rattle.gp_isa.proofs.size.long_place.Goals as goal
 
-pub returns-then-size-gt-LONGEST-clause-place : goal.returns-then-size-gt-LONGEST-clause-place
-returns-then-size-gt-LONGEST-clause-place c =
-    sym (first_from-Some (λ f. nat_lt longest (get_or c.args.sizes.now f (size_of [])).points) 0 (length c.args.sizes.now) c.loop-f.f
-    (omega arith) (omega (arith, c.loop-f-test.true)) (lt-ltb longest _ c.if-size-gt-LONGEST.true) (λ j above below. c.loop-f.invariant j below))
+pub returns-then-size-gt-POINTS-clause-place : goal.returns-then-size-gt-POINTS-clause-place
+returns-then-size-gt-POINTS-clause-place c =
+    sym (first_from-Some (λ f. nat_lt most_points (get_or c.args.sizes.now f (size_of [])).points) 0 (length c.args.sizes.now) c.loop-f.f
+    (omega arith) (omega (arith, c.loop-f-test.true)) (lt-ltb most_points _ c.if-size-gt-POINTS.true) (λ j above below. c.loop-f.invariant j below))
 
 pub returns-clause-place : goal.returns-clause-place
 returns-clause-place c =
-    sym (first_from-None (λ f. nat_lt longest (get_or c.args.sizes.now f (size_of [])).points) 0 (length c.args.sizes.now)
+    sym (first_from-None (λ f. nat_lt most_points (get_or c.args.sizes.now f (size_of [])).points) 0 (length c.args.sizes.now)
     (λ j above below. c.loop-f.invariant j (omega (arith, c.loop-f-test.false, c.loop-f.auto, below))))

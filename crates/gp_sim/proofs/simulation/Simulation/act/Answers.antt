@@ -1,5 +1,5 @@
 use Rattle.std.proofs.Common.{refl, sym, subst}
-use Rattle.gp_isa.specs.Limits.{AreInLimits}
+use Rattle.gp_isa.specs.InLimits.{AreInLimits}
 use Rattle.gp_machine.specs.State.{code_of}
 use Rattle.gp_machine.specs.May.{May}
 use Rattle.gp_machine.specs.Run.{last}

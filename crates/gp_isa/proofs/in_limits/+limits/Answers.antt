@@ -2,8 +2,8 @@ use Rattle.std.proofs.Common.{subst}
 use Rattle.std.proofs.lemmas.List.Elements.{All-more}
 use Rattle.gp_isa.specs.declared.statement.Stmt.{Stmt}
 use Rattle.gp_isa.specs.Statement.{action_of}
-use Rattle.gp_isa.specs.Limits.{IsAction, AreInside}
-use Rattle.gp_isa.proofs.limits.+limits.Goals as goal
+use Rattle.gp_isa.specs.InLimits.{IsAction, AreInside}
+use Rattle.gp_isa.proofs.in_limits.+limits.Goals as goal
 
 pub statements_fit-loop-statement-preserved : goal.statements_fit-loop-statement-preserved
 statements_fit-loop-statement-preserved t c =

@@ -2,8 +2,8 @@
 use Rattle.std.proofs.Common.{take}
 use Rattle.std.specs.List.{All}
 use Rattle.gp_isa.specs.Statement.{action_of}
-use Rattle.gp_isa.specs.Limits.{IsAction, AreInside}
-use Rattle.gp_isa.proofs.limits.+limits.Given as goal
+use Rattle.gp_isa.specs.InLimits.{IsAction, AreInside}
+use Rattle.gp_isa.proofs.in_limits.+limits.Given as goal
 
 abbrev pub invariant-statements_fit-loop-statement : goal.invariant-statements_fit-loop-statement
 invariant-statements_fit-loop-statement l =

@@ -1,19 +1,19 @@
 use Rattle.std.proofs.Common.{◌∙◌, sym, arith, true≢false}
 use Rattle.gp_isa.proofs.Names.{no_names, names_more, long_name, old_name}
-use Rattle.gp_isa.proofs.limits.names_fit.Goals as goal
-use Rattle.gp_isa.proofs.limits.names_fit.Goals.{then-len-gt-LONGEST_NAME-via-then-len-gt-LONGEST_NAME, then-len-gt-LONGEST_NAME-via-else-len-gt-LONGEST_NAME+then-has_name}
+use Rattle.gp_isa.proofs.in_limits.names_fit.Goals as goal
+use Rattle.gp_isa.proofs.in_limits.names_fit.Goals.{then-len-gt-NAME_BYTES-via-then-len-gt-NAME_BYTES, then-len-gt-NAME_BYTES-via-else-len-gt-NAME_BYTES+then-has_name}
 
 pub loop-at-init : goal.loop-at-init
 loop-at-init g c = no_names
 
-pub returns-then-len-gt-LONGEST_NAME : goal.returns-then-len-gt-LONGEST_NAME
-returns-then-len-gt-LONGEST_NAME g c = (
+pub returns-then-len-gt-NAME_BYTES : goal.returns-then-len-gt-NAME_BYTES
+returns-then-len-gt-NAME_BYTES g c = (
   λ never. absurd (true≢false (sym never)),
-  λ names. absurd (elim c.then-len-gt-LONGEST_NAME.branch [
-    | then-len-gt-LONGEST_NAME-via-then-len-gt-LONGEST_NAME w ↦
+  λ names. absurd (elim c.then-len-gt-NAME_BYTES.branch [
+    | then-len-gt-NAME_BYTES-via-then-len-gt-NAME_BYTES w ↦
         long_name g.N.Named.name_of c.args.items.now c.loop-at.at c.index-items-at.result c.name-name.result.now c.loop-at-test.true
         c.index-items-at.is c.name-name.ensures (omega arith) names
-    | then-len-gt-LONGEST_NAME-via-else-len-gt-LONGEST_NAME+then-has_name w ↦
+    | then-len-gt-NAME_BYTES-via-else-len-gt-NAME_BYTES+then-has_name w ↦
         old_name g.N.Named.name_of c.args.items.now c.loop-at.at c.index-items-at.result c.name-name.result.now c.loop-at-test.true
         c.index-items-at.is c.name-name.ensures (sym w.has_name.ensures ∙ w.if-has_name.true) names
   ]),
