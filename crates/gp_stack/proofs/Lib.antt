@@ -11,3 +11,4 @@ pub mod Looking
 pub mod Short
 pub mod Conditions
 pub mod Deep
+pub mod Coming

@@ -7,3 +7,4 @@ pub mod Body
 pub mod Climb
 pub mod Word
 pub mod Peek
+pub mod Record

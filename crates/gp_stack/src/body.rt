@@ -7,12 +7,13 @@ ghost use Rattle.gp_stack.specs.Goroutine.{next_point, is_ended, labels_of, loca
 ghost use Rattle.gp_stack.specs.Peek.{then_at};
 ghost use Rattle.gp_stack.specs.Word.{word_of};
 ghost use Rattle.gp_stack.specs.Body.{Progress, progress_of, HasRoom, StandsIn, IsAtShared};
+ghost use Rattle.gp_stack.specs.Record.{record_of};
 
 use crate::climb::{Climb, leaf, word};
 use crate::level::LOOPS;
 use crate::peek::{Peek, Then, look_work};
 use crate::place::Place;
-use crate::record::Stack;
+use crate::record::{FRAMES, Record, Stack};
 use crate::statement::Ahead;
 use gp_isa::{Memory, Program};
 use std::alloc::Global;
@@ -152,6 +153,35 @@ impl Body {
             Ahead::Loop(_, _) => unreachable!(),
             Ahead::Call(_) => unreachable!(),
         }
+    }
+
+    /// Whether the trace is ended.
+    pub fn is_over(&self, program: &Program) -> bool
+        requires { StandsIn program.now self.now }
+        ensures { let p = progress_of self.now in result ≡ is_ended (trace program.now p.start) p.count }
+    {
+        match self.peek(program, 0).then {
+            Then::Over => true,
+            Then::Local => false,
+            Then::Shared(_) => false,
+        }
+    }
+
+    /// What a profile has of the goroutine, whose number is `g`. At its trace's end its stack is empty.
+    pub fn record(&self, alloc: Global, program: &Program, g: u32) -> Result<Record, Memory>
+        requires { StandsIn program.now self.now }
+        ensures { IfOk result (λ row. row ≡ record_of program.now g (progress_of self.now)) }
+    {
+        let stack = if self.is_over(program) {
+            Stack::new(alloc)
+        } else {
+            self.stack(alloc, program, FRAMES)?
+        };
+        Ok(Record {
+            g,
+            stack,
+            set: self.labels(),
+        })
     }
 
     /// The stack of the next point, the leaf first, cut to its first `max` frames.
