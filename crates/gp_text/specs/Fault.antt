@@ -3,6 +3,7 @@
 use Rattle.std.specs.Prelude.{ℕ, ◌+◌, Bool, true, false, not, ◌||◌, ◌&&◌, ◌==◌, if◌then◌else◌, nat_le, List, [], ◌∷◌, ◌++◌, length, Option, Some, None, position, fold}
 use Rattle.std.specs.List.{flat_map, list_any}
 use Rattle.std.specs.Str.{bytes_eq}
+use Rattle.gp_isa.specs.Limits.{most_functions, most_channels, most_mutexes, most_capacity, most_count}
 use Rattle.gp_text.specs.declared.cause.Cause.{Cause}
 use Rattle.gp_text.specs.declared.cause.Cause.TheVariants.{BadLine, UnknownName, Twice, OutOfRange, NotClosed, NotUtf8 as NoText}
 use Rattle.gp_text.specs.declared.verb.Verb.{Verb}
@@ -46,9 +47,9 @@ is_inside before = fold inside_after false before
 
 -- the most names of a space
 abbrev pub most_names : Space → ℕ
-most_names Functions = 256
-most_names Channels = 1024
-most_names Mutexes = 1024
+most_names Functions = most_functions
+most_names Channels = most_channels
+most_names Mutexes = most_mutexes
 
 -- The names of each space.
 abbrev pub Known : Type 0
@@ -69,7 +70,7 @@ declaration_fault inside known space name fits =
 abbrev pub work_fault : Bool → ℕ → Option Cause
 work_fault inside n =
     if not inside then Some BadLine else
-    if nat_le 1 n && nat_le n 4294967295 then None else Some OutOfRange
+    if nat_le 1 n && nat_le n most_count then None else Some OutOfRange
 
 -- the fault of another statement, or of a brace
 abbrev pub inner_fault : Bool → Option Cause
@@ -82,7 +83,7 @@ fault inside known last NotUtf8 = Some NoText
 fault inside known last Nonsense = Some BadLine
 fault inside known last Silent = if last then Some BadLine else None
 fault inside known last (Header name) = declaration_fault inside known Functions name true
-fault inside known last (Channel name capacity) = declaration_fault inside known Channels name (nat_le capacity 65535)
+fault inside known last (Channel name capacity) = declaration_fault inside known Channels name (nat_le capacity most_capacity)
 fault inside known last (Mutex name) = declaration_fault inside known Mutexes name true
 fault inside known last (Work n) = work_fault inside n
 fault inside known last (Use verb name) = inner_fault inside

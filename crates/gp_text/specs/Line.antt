@@ -4,6 +4,7 @@ use Rattle.std.specs.List.{list_all, before_first, after_first}
 use Rattle.std.specs.Char.{is_ascii_digit, is_ascii_alphabetic, is_ascii_alphanumeric}
 use Rattle.std.specs.Str.{bytes_eq, is_utf8}
 use Rattle.std.specs.Str.Parse.{digits_value}
+use Rattle.gp_isa.specs.Limits.{name_bytes, number_digits}
 use Rattle.gp_text.specs.declared.verb.Verb.{Verb}
 use Rattle.gp_text.specs.declared.verb.Verb.TheVariants.{Call, Spawn, Send, Recv, Lock, Unlock}
 use Rattle.gp_text.specs.declared.said.Said.{Said}
@@ -53,17 +54,17 @@ continues_name b = is_ascii_alphanumeric b || (b == 95 || b == 46)
 abbrev pub has_length : ℕ → List ℕ → Bool
 has_length most bytes = nat_le 1 (length bytes) && nat_le (length bytes) most
 
--- A name has at most 64 bytes.
+-- A name has so many bytes at most.
 unfoldable pub is_name : List ℕ → Bool
-is_name name = has_length 64 name && (begins_name (slice_index name 0) && list_all continues_name name)
+is_name name = has_length name_bytes name && (begins_name (slice_index name 0) && list_all continues_name name)
 
 -- no 0 in front of another digit
 abbrev pub leads : List ℕ → Bool
 leads digits = length digits == 1 || not (slice_index digits 0 == 48)
 
--- A number is written with one to twenty digits.
+-- A number is written with digits, so many at most.
 unfoldable pub is_numeral : List ℕ → Bool
-is_numeral digits = has_length 20 digits && (leads digits && list_all is_ascii_digit digits)
+is_numeral digits = has_length number_digits digits && (leads digits && list_all is_ascii_digit digits)
 
 abbrev pub number : List ℕ → Option ℕ
 number digits = if is_numeral digits then Some (digits_value 10 digits) else None

@@ -9,14 +9,8 @@ use crate::error::TextError;
 use crate::said::Said;
 use crate::space::Space;
 use crate::spaces::Spaces;
-use gp_isa::Memory;
+use gp_isa::{Memory, limits};
 use std::alloc::Global;
-
-/// The greatest capacity of a channel.
-const MOST_CAPACITY: u128 = 65_535;
-
-/// The greatest count of `work`.
-const MOST_WORK: u128 = 4_294_967_295;
 
 // What the lines before a line said.
 #[derive(Drop)]
@@ -57,7 +51,7 @@ fn fault(before: &Before, said: &Said, last: bool) -> Option<Cause>
             before,
             Space::Channels,
             name.bytes(),
-            *capacity <= MOST_CAPACITY,
+            *capacity <= limits::CAPACITY as u128,
         ),
         Said::Mutex { name } => declaration_fault(before, Space::Mutexes, name.bytes(), true),
         Said::Work { n } => work_fault(before.inside, *n),
@@ -71,7 +65,7 @@ fn work_fault(inside: bool, n: u128) -> Option<Cause>
 {
     if !inside {
         Some(Cause::BadLine)
-    } else if n >= 1 && n <= MOST_WORK {
+    } else if n >= 1 && n <= limits::COUNT as u128 {
         None
     } else {
         Some(Cause::OutOfRange)

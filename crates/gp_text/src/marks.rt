@@ -5,13 +5,8 @@ ghost use Rattle.std.specs.List.{list_all};
 ghost use Rattle.std.specs.Char.{is_ascii_digit};
 ghost use Rattle.gp_text.specs.Line.{begins_name, continues_name, has_length, is_name, leads, is_numeral, number};
 
+use gp_isa::limits;
 use std::str;
-
-/// The most bytes of a name.
-const LONGEST_NAME: usize = 64;
-
-/// The most digits of a number.
-const LONGEST_NUMBER: usize = 20;
 
 fn begins_name(b: u8) -> bool
     ensures { result ≡ begins_name b }
@@ -43,7 +38,7 @@ fn all_continue(bytes: &[u8]) -> bool
 pub(crate) fn is_name(bytes: &[u8]) -> bool
     ensures { result ≡ is_name bytes.now }
 {
-    has_length(LONGEST_NAME, bytes) && begins_name(bytes[0]) && all_continue(bytes)
+    has_length(limits::NAME_BYTES, bytes) && begins_name(bytes[0]) && all_continue(bytes)
 }
 
 // Whether no 0 stands in front of another digit.
@@ -64,7 +59,7 @@ fn all_digits(bytes: &[u8]) -> bool
 fn is_numeral(bytes: &[u8]) -> bool
     ensures { result ≡ is_numeral bytes.now }
 {
-    has_length(LONGEST_NUMBER, bytes) && leads(bytes) && all_digits(bytes)
+    has_length(limits::NUMBER_DIGITS, bytes) && leads(bytes) && all_digits(bytes)
 }
 
 // The value of a number's digits.

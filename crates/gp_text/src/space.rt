@@ -2,6 +2,7 @@ ghost use Rattle.std.specs.Prelude.{◌≡◌};
 ghost use Rattle.gp_text.specs.Fault.{space_of, most_names};
 
 use crate::verb::Verb;
+use gp_isa::limits;
 
 /// Functions, channels and mutexes have a space of names each.
 #[derive(Clone, Copy, Debug, PartialEq, Eq)]
@@ -28,8 +29,9 @@ impl Space {
         ensures { result ≡ most_names self }
     {
         match self {
-            Space::Functions => 256,
-            Space::Channels | Space::Mutexes => 1024,
+            Space::Functions => limits::FUNCTIONS,
+            Space::Channels => limits::CHANNELS,
+            Space::Mutexes => limits::MUTEXES,
         }
     }
 }
