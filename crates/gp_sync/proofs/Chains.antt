@@ -2,7 +2,7 @@
 use Rattle.std.proofs.Common.{◌≡◌, ◌≢◌, ℕ, zero, suc, ◌≤◌, List, [], ◌∷◌, ◌++◌, length, get_or, refl, ap, arith}
 use Rattle.gp_sync.specs.declared.effect.Waiter.{Waiter}
 use Rattle.gp_sync.specs.Places.{in_line}
-use Rattle.gp_sync.specs.Links.{line_from, behind}
+use Rattle.gp_sync.specs.kept.Links.{line_from, behind}
 use Rattle.gp_sync.proofs.Counts.{in_line-cons, one_at}
 
 abbrev waiter : List ℕ → ℕ → Waiter

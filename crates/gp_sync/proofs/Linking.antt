@@ -7,7 +7,7 @@ use Rattle.std.proofs.lemmas.Bool.{cases_eq, cases_lt}
 use Rattle.gp_sync.specs.declared.effect.Waiter.{Waiter}
 use Rattle.gp_sync.specs.declared.lines.Line.{Line}
 use Rattle.gp_sync.specs.Places.{in_line}
-use Rattle.gp_sync.specs.Links.{no_line, line_from, behind, line_of, lines_of, with_last, without_head, BeginsWith, AreLinked, linked, lengthened, shortened}
+use Rattle.gp_sync.specs.kept.Links.{no_line, line_from, behind, line_of, lines_of, with_last, without_head, BeginsWith, AreLinked, linked, lengthened, shortened}
 use Rattle.gp_sync.proofs.Counts.{place, one_at, none_at, in_line-cons, in_line_push, two_places, length-of_different}
 use Rattle.gp_sync.proofs.Chains.{length-line_from, head_in, last_in, same_line, same_last, longer_line}
 

@@ -5,9 +5,9 @@ use Rattle.std.proofs.lemmas.List.Sums.{sum_by-cons, sum_by-append}
 use Rattle.gp_sync.specs.declared.effect.Waiter.{Waiter}
 use Rattle.gp_sync.specs.Operations.{Channel, Mutex, empty_channel, free_mutex}
 use Rattle.gp_sync.specs.Places.{in_line, in_channel, in_mutex, places_of}
-use Rattle.gp_sync.specs.Links.{LineTable}
+use Rattle.gp_sync.specs.kept.Links.{LineTable}
 use Rattle.gp_sync.specs.WaitState.{WaitState}
-use Rattle.gp_sync.specs.Layout.{channels_of, mutexes_of, state_of, IsLaidOut}
+use Rattle.gp_sync.specs.kept.Layout.{channels_of, mutexes_of, state_of, IsLaidOut}
 
 Row : Type 0
 Row = List Waiter
@@ -207,26 +207,6 @@ module _ (caps bs : List ℕ) (hs : List Bool) (table : LineTable) (whole : IsLa
 
   pub waiters_at : (m : ℕ) → m < length hs → (get_or state.mutexes m free_mutex).waiters ≡ get_or table.lines (n + (n + m)) []
   waiters_at m lt = ap (λ (mutex : Mutex). mutex.waiters) (mutex_is m lt)
-
-  -- what is done to a line, as is done to the senders, the receivers or those who wait for a mutex
-  pub senders_by : (f : List Waiter → List Waiter) (c : ℕ) → c < n → with_lines (set table.lines c (f (get_or table.lines c []))) ≡ record state { channels = set state.channels c (record (get_or state.channels c empty_channel) { senders = f (get_or state.channels c empty_channel).senders }) }
-  senders_by f c lt = rw (senders_at c lt) (with_senders c (f (get_or table.lines c [])) lt)
-
-  pub receivers_by : (f : List Waiter → List Waiter) (c : ℕ) → c < n → with_lines (set table.lines (n + c) (f (get_or table.lines (n + c) []))) ≡ record state { channels = set state.channels c (record (get_or state.channels c empty_channel) { receivers = f (get_or state.channels c empty_channel).receivers }) }
-  receivers_by f c lt = rw (receivers_at c lt) (with_receivers c (f (get_or table.lines (n + c) [])) lt)
-
-  pub waiters_by : (f : List Waiter → List Waiter) (m : ℕ) → m < length hs → with_lines (set table.lines (n + (n + m)) (f (get_or table.lines (n + (n + m)) []))) ≡ record state { mutexes = set state.mutexes m (record (get_or state.mutexes m free_mutex) { waiters = f (get_or state.mutexes m free_mutex).waiters }) }
-  waiters_by f m lt = rw (waiters_at m lt) (with_waiters m (f (get_or table.lines (n + (n + m)) [])))
-
-  -- what is there, seen from a value that the parts stand for
-  pub there : (value : WaitState) → state ≡ value → (c : ℕ) → c < length value.channels → c < n
-  there value e c lt = omega (arith, lt, ap (λ (s : WaitState). length s.channels) e, channels_count)
-
-  pub there_mutex : (value : WaitState) → state ≡ value → (m : ℕ) → m < length value.mutexes → m < length hs
-  there_mutex value e m lt = omega (arith, lt, ap (λ (s : WaitState). length s.mutexes) e, mutexes_count)
-
-  pub nowhere : (value : WaitState) → state ≡ value → (g : ℕ) → places_of value.channels value.mutexes g ≡ 0 → sum_by (in_line g) table.lines ≡ 0
-  nowhere value e g none = no_places g (ap (λ (s : WaitState). places_of s.channels s.mutexes g) e ∙ none)
 
 channels_none : (n : ℕ) (ss rs : List (List Waiter)) → channels_of (replicate n 0) (replicate n [] ++ ss) (replicate n [] ++ rs) ≡ replicate n empty_channel
 channels_none zero ss rs = refl

@@ -1,5 +1,4 @@
 pub mod Operations
 pub mod Places
 pub mod WaitState
-pub mod Links
-pub mod Layout
+pub mod kept

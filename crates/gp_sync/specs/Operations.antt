@@ -15,6 +15,10 @@ pub record Mutex : Type 0 where
   pub held : Bool
   pub waiters : List Waiter
 
+-- goroutine g, which waits since a clock
+abbrev pub waiter : ℕ → ℕ → Waiter
+waiter g clock = record { g = g; since = clock }
+
 -- an empty channel, and a free mutex, on which nobody waits
 abbrev pub empty_channel : Channel
 empty_channel = record { buffered = 0; senders = []; receivers = [] }
@@ -65,11 +69,12 @@ unlock mutex = if mutex.held then unlock_for mutex.waiters mutex else (Fault, mu
 
 -- Three examples. A send blocks where nobody receives and there is no buffer; a receive then wakes that sender; an
 -- unlock hands a held mutex over to the head waiter.
-blocked_send : send 0 empty_channel (record { g = 3; since = 7 }) ≡ (Blocks, record empty_channel { senders = record { g = 3; since = 7 } ∷ [] })
+blocked_send : send 0 empty_channel (waiter 3 7) ≡ (Blocks, record empty_channel { senders = waiter 3 7 ∷ [] })
 blocked_send = refl
 
-waking_receive : recv (record empty_channel { senders = record { g = 3; since = 7 } ∷ [] }) (record { g = 5; since = 9 }) ≡ (Wakes 3 7, empty_channel)
+waking_receive : recv (record empty_channel { senders = waiter 3 7 ∷ [] }) (waiter 5 9) ≡ (Wakes 3 7, empty_channel)
 waking_receive = refl
 
-handed_over : unlock (record { held = true; waiters = record { g = 3; since = 7 } ∷ record { g = 4; since = 8 } ∷ [] }) ≡ (Wakes 3 7, record { held = true; waiters = record { g = 4; since = 8 } ∷ [] })
+handed_over : unlock (record { held = true; waiters = waiter 3 7 ∷ waiter 4 8 ∷ [] })
+    ≡ (Wakes 3 7, record { held = true; waiters = waiter 4 8 ∷ [] })
 handed_over = refl

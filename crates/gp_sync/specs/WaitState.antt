@@ -1,5 +1,5 @@
 -- What wait lists are: the channels and mutexes of a program, with who waits on them.
-use Rattle.std.specs.Prelude.{ℕ, List, length, slice_index_or, map, replicate}
+use Rattle.std.specs.Prelude.{ℕ, List, length, slice_index_or, slice_set, map, replicate}
 use Rattle.gp_isa.specs.declared.parts.Parts.{Parts}
 use Rattle.gp_isa.specs.declared.parts.ChannelDecl.{ChannelDecl}
 use Rattle.gp_sync.specs.Operations.{Channel, Mutex, empty_channel, free_mutex}
@@ -35,3 +35,10 @@ capacity state c = slice_index_or state.capacities c 0
 -- the mutex of a number
 abbrev pub mutex : WaitState → ℕ → Mutex
 mutex state m = slice_index_or state.mutexes m free_mutex
+
+-- the state with another channel, or another mutex, under a number
+abbrev pub with_channel : WaitState → ℕ → Channel → WaitState
+with_channel state c new = record state { channels = slice_set state.channels c new }
+
+abbrev pub with_mutex : WaitState → ℕ → Mutex → WaitState
+with_mutex state m new = record state { mutexes = slice_set state.mutexes m new }

@@ -17,6 +17,7 @@
 
 mod effect;
 mod lines;
+mod wait_list;
 mod wait_lists;
 
 pub use effect::{Effect, Waiter};

@@ -1,6 +1,6 @@
 ghost use Rattle.std.specs.Prelude.{◌≡◌, ℕ, List, ◌<◌, ◌+◌, ◌^◌, [], ◌∷◌, ◌++◌, length, replicate, sum_by, slice_get, slice_index_or, IfOk, IfNone, IfSome};
 ghost use Rattle.gp_sync.specs.Places.{in_line};
-ghost use Rattle.gp_sync.specs.Links.{AreLinked, line_of, lines_of, linked, lengthened, shortened, with_last, without_head, BeginsWith};
+ghost use Rattle.gp_sync.specs.kept.Links.{AreLinked, line_of, lines_of, linked, lengthened, shortened, with_last, without_head, BeginsWith};
 
 use crate::effect::Waiter;
 use gp_isa::Memory;
@@ -35,7 +35,7 @@ pub struct Lines {
 
 impl Model for Lines {
     ghost use Rattle.std.specs.Prelude.{length};
-    ghost use Rattle.gp_sync.specs.Links.{LineTable, lines_of, AreLinked};
+    ghost use Rattle.gp_sync.specs.kept.Links.{LineTable, lines_of, AreLinked};
 
     ghost Value = { LineTable };
 

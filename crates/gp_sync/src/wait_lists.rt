@@ -1,11 +1,13 @@
-ghost use Rattle.std.specs.Prelude.{◌≡◌, ◌<◌, ◌≤◌, ◌+◌, ◌-◌, ◌^◌, [], ◌∷◌, ◌++◌, length, map, drop, nat_lt, slice_get, slice_set, IsTrue, IfOk, IfNone, IfSome};
-ghost use Rattle.gp_sync.specs.Operations.{send, recv, lock, unlock};
-ghost use Rattle.gp_sync.specs.Links.{BeginsWith};
+ghost use Rattle.std.specs.Prelude.{◌≡◌, ◌<◌, ◌≤◌, ◌+◌, ◌-◌, ◌^◌, [], ◌∷◌, ◌++◌, length, map, drop, nat_lt, slice_get, IsTrue, IfOk, IfNone, IfSome};
+ghost use Rattle.gp_sync.specs.Operations.{waiter, send, recv, lock, unlock};
+ghost use Rattle.gp_sync.specs.kept.Links.{BeginsWith};
+ghost use Rattle.gp_sync.specs.kept.WaitList.{IsThere, waiters_in, with_waiters, number_of};
 ghost use Rattle.gp_sync.specs.Places.{places_of};
-ghost use Rattle.gp_sync.specs.WaitState.{at_start, empty_lists, channel, capacity, mutex};
+ghost use Rattle.gp_sync.specs.WaitState.{at_start, empty_lists, channel, capacity, mutex, with_channel, with_mutex};
 
 use crate::effect::{Effect, Waiter};
 use crate::lines::Lines;
+use crate::wait_list::WaitList;
 use gp_isa::{ChannelDecl, Memory, Program};
 use std::alloc::Global;
 use std::marker::Model;
@@ -26,7 +28,7 @@ pub struct WaitLists {
 
 impl Model for WaitLists {
     ghost use Rattle.gp_sync.specs.WaitState.{WaitState};
-    ghost use Rattle.gp_sync.specs.Layout.{state_of, IsLaidOut};
+    ghost use Rattle.gp_sync.specs.kept.Layout.{state_of, IsLaidOut};
 
     ghost Value = { WaitState };
 
@@ -79,70 +81,39 @@ impl WaitLists {
         })
     }
 
-    // Takes the head sender from its line.
-    fn next_sender(&mut self, c: usize) -> Option<Waiter>
-        requires { c < length self.old.channels }
-        ensures none { IfNone result ((channel self.old c).senders ≡ []) }
-        ensures same { IfNone result (self.new ≡ self.old) }
-        ensures head { IfSome result (λ head. BeginsWith head (channel self.old c).senders) }
-        ensures rest { self.new ≡ record self.old { channels = slice_set self.old.channels c (record (channel self.old c) { senders = drop 1 (channel self.old c).senders }) } }
+    // The number of the line that keeps a wait list.
+    fn line(&self, list: WaitList) -> usize
+        requires { IsThere self.now list }
+        ensures { result ≡ number_of (length self.now.channels) list }
     {
-        self.lines.pop_front(c)
+        let channels = self.buffered.len();
+        match list {
+            WaitList::Senders(c) => c,
+            WaitList::Receivers(c) => channels + c,
+            WaitList::Lockers(m) => channels + (channels + m),
+        }
     }
 
-    // Takes the head receiver from its line.
-    fn next_receiver(&mut self, c: usize) -> Option<Waiter>
-        requires { c < length self.old.channels }
-        ensures none { IfNone result ((channel self.old c).receivers ≡ []) }
+    // Takes who waits first from a wait list.
+    fn next(&mut self, list: WaitList) -> Option<Waiter>
+        requires { IsThere self.old list }
+        ensures none { IfNone result (waiters_in self.old list ≡ []) }
         ensures same { IfNone result (self.new ≡ self.old) }
-        ensures head { IfSome result (λ head. BeginsWith head (channel self.old c).receivers) }
-        ensures rest { self.new ≡ record self.old { channels = slice_set self.old.channels c (record (channel self.old c) { receivers = drop 1 (channel self.old c).receivers }) } }
+        ensures head { IfSome result (λ head. BeginsWith head (waiters_in self.old list)) }
+        ensures rest { self.new ≡ with_waiters self.old list (drop 1 (waiters_in self.old list)) }
     {
-        let line = self.buffered.len() + c;
+        let line = self.line(list);
         self.lines.pop_front(line)
     }
 
-    // Takes the head of those who wait for a mutex from its line.
-    fn next_waiter(&mut self, m: usize) -> Option<Waiter>
-        requires { m < length self.old.mutexes }
-        ensures none { IfNone result ((mutex self.old m).waiters ≡ []) }
-        ensures same { IfNone result (self.new ≡ self.old) }
-        ensures head { IfSome result (λ head. BeginsWith head (mutex self.old m).waiters) }
-        ensures rest { self.new ≡ record self.old { mutexes = slice_set self.old.mutexes m (record (mutex self.old m) { waiters = drop 1 (mutex self.old m).waiters }) } }
-    {
-        let line = self.buffered.len() + (self.buffered.len() + m);
-        self.lines.pop_front(line)
-    }
-
-    // Lets g wait at the tail of the senders.
-    fn add_sender(&mut self, c: usize, g: u32, clock: u64)
-        requires there { c < length self.old.channels }
+    // Lets g wait at the tail of a wait list.
+    fn wait(&mut self, list: WaitList, g: u32, clock: u64)
+        requires there { IsThere self.old list }
         requires within { g < self.old.cells }
         requires waits_nowhere { places_of self.old.channels self.old.mutexes g ≡ 0 }
-        ensures { self.new ≡ record self.old { channels = slice_set self.old.channels c (record (channel self.old c) { senders = (channel self.old c).senders ++ record { g = g; since = clock } ∷ [] }) } }
+        ensures { self.new ≡ with_waiters self.old list (waiters_in self.old list ++ waiter g clock ∷ []) }
     {
-        self.lines.push_back(c, g, clock);
-    }
-
-    // Lets g wait at the tail of the receivers.
-    fn add_receiver(&mut self, c: usize, g: u32, clock: u64)
-        requires there { c < length self.old.channels }
-        requires within { g < self.old.cells }
-        requires waits_nowhere { places_of self.old.channels self.old.mutexes g ≡ 0 }
-        ensures { self.new ≡ record self.old { channels = slice_set self.old.channels c (record (channel self.old c) { receivers = (channel self.old c).receivers ++ record { g = g; since = clock } ∷ [] }) } }
-    {
-        let line = self.buffered.len() + c;
-        self.lines.push_back(line, g, clock);
-    }
-
-    // Lets g wait for a mutex at the tail.
-    fn add_waiter(&mut self, m: usize, g: u32, clock: u64)
-        requires there { m < length self.old.mutexes }
-        requires within { g < self.old.cells }
-        requires waits_nowhere { places_of self.old.channels self.old.mutexes g ≡ 0 }
-        ensures { self.new ≡ record self.old { mutexes = slice_set self.old.mutexes m (record (mutex self.old m) { waiters = (mutex self.old m).waiters ++ record { g = g; since = clock } ∷ [] }) } }
-    {
-        let line = self.buffered.len() + (self.buffered.len() + m);
+        let line = self.line(list);
         self.lines.push_back(line, g, clock);
     }
 
@@ -165,7 +136,7 @@ impl WaitLists {
     fn put(&mut self, c: usize)
         requires there { c < length self.old.channels }
         requires room { (channel self.old c).buffered + 1 < 2 ^ 32 }
-        ensures { self.new ≡ record self.old { channels = slice_set self.old.channels c (record (channel self.old c) { buffered = (channel self.old c).buffered + 1 }) } }
+        ensures { self.new ≡ with_channel self.old c (record (channel self.old c) { buffered = (channel self.old c).buffered + 1 }) }
     {
         self.buffered[c] += 1;
     }
@@ -174,14 +145,14 @@ impl WaitLists {
     fn take(&mut self, c: usize)
         requires there { c < length self.old.channels }
         requires some { 0 < (channel self.old c).buffered }
-        ensures { self.new ≡ record self.old { channels = slice_set self.old.channels c (record (channel self.old c) { buffered = (channel self.old c).buffered - 1 }) } }
+        ensures { self.new ≡ with_channel self.old c (record (channel self.old c) { buffered = (channel self.old c).buffered - 1 }) }
     {
         self.buffered[c] -= 1;
     }
 
     fn set_held(&mut self, m: usize, held: bool)
         requires { m < length self.old.mutexes }
-        ensures { self.new ≡ record self.old { mutexes = slice_set self.old.mutexes m (record (mutex self.old m) { held = held }) } }
+        ensures { self.new ≡ with_mutex self.old m (record (mutex self.old m) { held = held }) }
     {
         self.held[m] = held;
     }
@@ -192,14 +163,14 @@ impl WaitLists {
         requires within { g < self.old.cells }
         requires waits_nowhere { places_of self.old.channels self.old.mutexes g ≡ 0 }
         requires none { (channel self.old c).receivers ≡ [] }
-        ensures effect { result ≡ (send (capacity self.old c) (channel self.old c) (record { g = g; since = clock })).0 }
-        ensures channel { self.new ≡ record self.old { channels = slice_set self.old.channels c (send (capacity self.old c) (channel self.old c) (record { g = g; since = clock })).1 } }
+        ensures effect { result ≡ (send (capacity self.old c) (channel self.old c) (waiter g clock)).0 }
+        ensures channel { self.new ≡ with_channel self.old c (send (capacity self.old c) (channel self.old c) (waiter g clock)).1 }
     {
         if self.has_room(c) {
             self.put(c);
             return Effect::Done;
         }
-        self.add_sender(c, g, clock);
+        self.wait(WaitList::Senders(c), g, clock);
         Effect::Blocks
     }
 
@@ -209,14 +180,14 @@ impl WaitLists {
         requires within { g < self.old.cells }
         requires waits_nowhere { places_of self.old.channels self.old.mutexes g ≡ 0 }
         requires none { (channel self.old c).senders ≡ [] }
-        ensures effect { result ≡ (recv (channel self.old c) (record { g = g; since = clock })).0 }
-        ensures channel { self.new ≡ record self.old { channels = slice_set self.old.channels c (recv (channel self.old c) (record { g = g; since = clock })).1 } }
+        ensures effect { result ≡ (recv (channel self.old c) (waiter g clock)).0 }
+        ensures channel { self.new ≡ with_channel self.old c (recv (channel self.old c) (waiter g clock)).1 }
     {
         if self.has_value(c) {
             self.take(c);
             return Effect::Done;
         }
-        self.add_receiver(c, g, clock);
+        self.wait(WaitList::Receivers(c), g, clock);
         Effect::Blocks
     }
 
@@ -226,11 +197,11 @@ impl WaitLists {
         requires there { c < length self.old.channels }
         requires within { g < self.old.cells }
         requires waits_nowhere { places_of self.old.channels self.old.mutexes g ≡ 0 }
-        ensures effect { result ≡ (send (capacity self.old c) (channel self.old c) (record { g = g; since = clock })).0 }
-        ensures channel { self.new ≡ record self.old { channels = slice_set self.old.channels c (send (capacity self.old c) (channel self.old c) (record { g = g; since = clock })).1 } }
+        ensures effect { result ≡ (send (capacity self.old c) (channel self.old c) (waiter g clock)).0 }
+        ensures channel { self.new ≡ with_channel self.old c (send (capacity self.old c) (channel self.old c) (waiter g clock)).1 }
     {
         let c = c as usize;
-        match self.next_receiver(c) {
+        match self.next(WaitList::Receivers(c)) {
             Some(head) => head.woken(),
             None => self.put_or_wait(c, g, clock),
         }
@@ -242,11 +213,11 @@ impl WaitLists {
         requires there { c < length self.old.channels }
         requires within { g < self.old.cells }
         requires waits_nowhere { places_of self.old.channels self.old.mutexes g ≡ 0 }
-        ensures effect { result ≡ (recv (channel self.old c) (record { g = g; since = clock })).0 }
-        ensures channel { self.new ≡ record self.old { channels = slice_set self.old.channels c (recv (channel self.old c) (record { g = g; since = clock })).1 } }
+        ensures effect { result ≡ (recv (channel self.old c) (waiter g clock)).0 }
+        ensures channel { self.new ≡ with_channel self.old c (recv (channel self.old c) (waiter g clock)).1 }
     {
         let c = c as usize;
-        match self.next_sender(c) {
+        match self.next(WaitList::Senders(c)) {
             Some(head) => head.woken(),
             None => self.take_or_wait(c, g, clock),
         }
@@ -266,8 +237,7 @@ impl WaitLists {
         requires { m < length self.now.mutexes }
         ensures { result ≡ slice_get (mutex self.now m).waiters 0 }
     {
-        let line = self.buffered.len() + (self.buffered.len() + m as usize);
-        self.lines.front(line)
+        self.lines.front(self.line(WaitList::Lockers(m as usize)))
     }
 
     /// Goroutine g locks mutex m, at a clock: it takes a free one, and else waits, also for one that it holds itself.
@@ -276,11 +246,11 @@ impl WaitLists {
         requires there { m < length self.old.mutexes }
         requires within { g < self.old.cells }
         requires waits_nowhere { places_of self.old.channels self.old.mutexes g ≡ 0 }
-        ensures effect { result ≡ (lock (mutex self.old m) (record { g = g; since = clock })).0 }
-        ensures mutex { self.new ≡ record self.old { mutexes = slice_set self.old.mutexes m (lock (mutex self.old m) (record { g = g; since = clock })).1 } }
+        ensures effect { result ≡ (lock (mutex self.old m) (waiter g clock)).0 }
+        ensures mutex { self.new ≡ with_mutex self.old m (lock (mutex self.old m) (waiter g clock)).1 }
     {
         if self.is_held(m) {
-            self.add_waiter(m as usize, g, clock);
+            self.wait(WaitList::Lockers(m as usize), g, clock);
             return Effect::Blocks;
         }
         self.set_held(m as usize, true);
@@ -292,12 +262,12 @@ impl WaitLists {
     pub fn unlock(&mut self, m: u32, _g: u32, _clock: u64) -> Effect
         requires { m < length self.old.mutexes }
         ensures effect { result ≡ (unlock (mutex self.old m)).0 }
-        ensures mutex { self.new ≡ record self.old { mutexes = slice_set self.old.mutexes m (unlock (mutex self.old m)).1 } }
+        ensures mutex { self.new ≡ with_mutex self.old m (unlock (mutex self.old m)).1 }
     {
         if !self.is_held(m) {
             return Effect::Fault;
         }
-        match self.next_waiter(m as usize) {
+        match self.next(WaitList::Lockers(m as usize)) {
             Some(head) => head.woken(),
             None => {
                 self.set_held(m as usize, false);

@@ -1,6 +1,6 @@
 use Rattle.std.proofs.Common.{◌<◌, length, arith}
 use Rattle.std.proofs.lemmas.List.{length-map, get_or_read}
-use Rattle.gp_sync.specs.Links.{no_line, line_of}
+use Rattle.gp_sync.specs.kept.Links.{no_line, line_of}
 use Rattle.gp_sync.proofs.Linking.{head_within}
 use Rattle.gp_sync.proofs.lines.Lines.front.Goals as goal
 

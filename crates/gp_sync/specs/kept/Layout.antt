@@ -3,7 +3,7 @@
 use Rattle.std.specs.Prelude.{◌≡◌, ℕ, ◌+◌, ◌<◌, ◌^◌, Bool, List, [], ◌∷◌, length, drop}
 use Rattle.gp_sync.specs.declared.effect.Waiter.{Waiter}
 use Rattle.gp_sync.specs.Operations.{Channel, Mutex}
-use Rattle.gp_sync.specs.Links.{LineTable}
+use Rattle.gp_sync.specs.kept.Links.{LineTable}
 use Rattle.gp_sync.specs.WaitState.{WaitState}
 
 -- channels from how many values each has, its senders and its receivers
