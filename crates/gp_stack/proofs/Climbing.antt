@@ -5,8 +5,8 @@ use Rattle.gp_isa.specs.declared.parts.Parts.{Parts}
 use Rattle.gp_stack.specs.declared.climb.Climb.{Climb}
 use Rattle.gp_stack.specs.declared.level.Level.{Level}
 use Rattle.gp_stack.specs.declared.place.Place.{Place}
-use Rattle.gp_stack.specs.Level.{is_base, callers, frame_of}
-use Rattle.gp_stack.specs.Climb.{frames_left}
+use Rattle.gp_stack.specs.kept.Level.{is_base, callers, frame_of}
+use Rattle.gp_stack.specs.kept.Climb.{frames_left}
 use Rattle.gp_stack.proofs.Levels.{reverse_last}
 
 above : (levels : List Level) (i : ℕ) (o : Level) → i < length levels → o ≡ get_or levels i o → reverse (take (i + 1) levels) ≡ o ∷ reverse (take i levels)

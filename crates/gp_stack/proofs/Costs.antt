@@ -7,10 +7,10 @@ use Rattle.gp_isa.specs.declared.statement.What.TheOpen.{Work, Call, Loop, Send,
 use Rattle.gp_isa.specs.Statement.{Action, action_of}
 use Rattle.gp_isa.specs.Trace.{body_of}
 use Rattle.gp_stack.specs.declared.level.Level.{Level}
-use Rattle.gp_stack.specs.Level.{is_base, body_at}
-use Rattle.gp_stack.specs.Place.{stepped, turned}
-use Rattle.gp_stack.specs.Ahead.{Does}
-use Rattle.gp_stack.specs.Cost.{cost_of, cost_of_body, cost_of_call, cost_here, cost}
+use Rattle.gp_stack.specs.kept.Level.{is_base, body_at}
+use Rattle.gp_stack.specs.kept.Place.{stepped, turned}
+use Rattle.gp_stack.specs.kept.Ahead.{Does}
+use Rattle.gp_stack.specs.kept.Cost.{cost_of, cost_of_body, cost_of_call, cost_here, cost}
 use Rattle.gp_stack.proofs.Levels.{drop_at, base_false}
 use Rattle.gp_stack.proofs.Moves.{moved, body_moved, loop_level, call_level, body_of_loop, body_of_call, body_turned}
 

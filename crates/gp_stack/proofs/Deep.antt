@@ -13,7 +13,7 @@ use Rattle.gp_isa.specs.Size.{most_frames, most_frames_below, depth_of}
 use Rattle.gp_isa.proofs.Sizes.{most_frames-append, most_frames-repeated}
 use Rattle.gp_isa.proofs.Frames.{most_frames-trace_within}
 use Rattle.gp_isa.proofs.Depth.{traces_follow_calls}
-use Rattle.gp_stack.specs.Level.{points_of_call}
+use Rattle.gp_stack.specs.kept.Level.{points_of_call}
 use Rattle.gp_stack.proofs.Moves.{trace_call}
 
 -- points of which each has a frame

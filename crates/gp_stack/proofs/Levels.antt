@@ -8,8 +8,8 @@ use Rattle.gp_isa.specs.declared.statement.What.{What}
 use Rattle.gp_isa.specs.Statement.{Action, action}
 use Rattle.gp_isa.specs.Trace.{body_of}
 use Rattle.gp_stack.specs.declared.level.Level.{Level}
-use Rattle.gp_stack.specs.Level.{is_base, body_inside, loop_body, body_at}
-use Rattle.gp_stack.specs.Ahead.{Does}
+use Rattle.gp_stack.specs.kept.Level.{is_base, body_inside, loop_body, body_at}
+use Rattle.gp_stack.specs.kept.Ahead.{Does}
 
 -- the statement that was found, and what it does
 pub does_what : (body : List Stmt) (at : ℕ) (s : Stmt) (w : What) (a : Action) → Some s ≡ slice_get body at → (out-Stmt s).what ≡ w → action w ≡ a → Does body at a

@@ -11,14 +11,15 @@ use Rattle.gp_stack.specs.declared.peek.Peek.{Peek}
 use Rattle.gp_stack.specs.declared.peek.Then.TheVariants.{Shared, Over}
 use Rattle.gp_stack.specs.declared.statement.Operation.{Operation}
 use Rattle.gp_stack.specs.declared.statement.Operation.TheVariants as operation
-use Rattle.gp_stack.specs.Ahead.{Does, action_of_operation}
+use Rattle.gp_stack.specs.kept.Ahead.{Does, action_of_operation}
 use Rattle.gp_stack.specs.declared.level.Level.{Level}
 use Rattle.gp_stack.specs.declared.body.Body.{Body}
 use Rattle.gp_stack.specs.Goroutine.{local_ahead}
 use Rattle.gp_stack.specs.Body.{StandsIn}
-use Rattle.gp_stack.specs.Place.{Fit, levels, stepped}
-use Rattle.gp_stack.specs.Level.{is_base, body_at, callers, called_from, left_here, left, points_of_call}
-use Rattle.gp_stack.specs.Peek.{operation_of, first_of, then_at, steps, peek_of, points_of_action, points_of_all}
+use Rattle.gp_stack.specs.kept.Place.{Fit, levels, stepped}
+use Rattle.gp_stack.specs.kept.Level.{is_base, body_at, callers, called_from, left_here, left, points_of_call}
+use Rattle.gp_stack.specs.Peek.{operation_of, first_of, then_at}
+use Rattle.gp_stack.specs.kept.Looks.{steps, peek_of, points_of_action, points_of_all}
 use Rattle.gp_stack.proofs.Levels.{drop_at}
 use Rattle.gp_stack.proofs.Moves.{body_cons, body_nil, trace_call, no_function, repeated_none, left_cons, left_none, left_next}
 use Rattle.gp_stack.proofs.Peeks.{Sees, plus, peek_on, peek_stop, sees_none, sees_on, sees_stop, sees_end, peek_le, steps_called, peek_local, peek_then}

@@ -10,9 +10,9 @@ use Rattle.gp_isa.specs.declared.statement.What.TheOpen.{Call, Loop}
 use Rattle.gp_isa.specs.Statement.{Action, action_of, line_of}
 use Rattle.gp_isa.specs.Trace.{Point, called_at, repeated, points_at, points_of_body, body_of, trace_within, trace}
 use Rattle.gp_stack.specs.declared.level.Level.{Level}
-use Rattle.gp_stack.specs.Level.{is_base, body_inside, line_at, body_at, frame_of, callers, called_from, inner_points, points_of_call, points_of_statements, left_here, left}
-use Rattle.gp_stack.specs.Place.{stepped, turned}
-use Rattle.gp_stack.specs.Ahead.{Does}
+use Rattle.gp_stack.specs.kept.Level.{is_base, body_inside, line_at, body_at, frame_of, callers, called_from, inner_points, points_of_call, points_of_statements, left_here, left}
+use Rattle.gp_stack.specs.kept.Place.{stepped, turned}
+use Rattle.gp_stack.specs.kept.Ahead.{Does}
 use Rattle.gp_stack.proofs.Levels.{drop_at, inside_does, base_false, looped}
 
 pub body_cons : (calls : ℕ → List Point) (f deep : ℕ) (s : Stmt) (body : List Stmt) → points_of_body calls f deep (s ∷ body) ≡ points_at calls (inner_points calls f deep) f (line_of s) (action_of s) ++ points_of_body calls f deep body

@@ -6,8 +6,9 @@ use Rattle.gp_isa.specs.Trace.{Instruction, Local as LocalPoint, Labels, Send, R
 use Rattle.gp_stack.specs.declared.peek.Peek.{Peek}
 use Rattle.gp_stack.specs.declared.peek.Then.TheVariants.{Local, Over}
 use Rattle.gp_stack.specs.declared.statement.Operation.{Operation}
-use Rattle.gp_stack.specs.Level.{called_from}
-use Rattle.gp_stack.specs.Peek.{operation_of, then_is, first_of, steps, one_local, peek_of}
+use Rattle.gp_stack.specs.kept.Level.{called_from}
+use Rattle.gp_stack.specs.Peek.{operation_of, then_is, first_of}
+use Rattle.gp_stack.specs.kept.Looks.{steps, one_local, peek_of}
 
 -- so many local points, and then what another look finds
 abbrev pub plus : ℕ → Peek → Peek

@@ -9,10 +9,10 @@ use Rattle.gp_isa.specs.Statement.{line_of}
 use Rattle.gp_stack.specs.declared.level.Level.{Level}
 use Rattle.gp_stack.specs.declared.statement.Operation.{Operation}
 use Rattle.gp_stack.specs.declared.statement.Operation.TheVariants as operation
-use Rattle.gp_stack.specs.Level.{body_at, left}
-use Rattle.gp_stack.specs.Cost.{cost}
-use Rattle.gp_stack.specs.Ahead.{Does, action_of_operation}
-use Rattle.gp_stack.specs.Place.{stepped, turned, left_behind, looped, called, Fit, IsSettled, AtPoint}
+use Rattle.gp_stack.specs.kept.Level.{body_at, left}
+use Rattle.gp_stack.specs.kept.Cost.{cost}
+use Rattle.gp_stack.specs.kept.Ahead.{Does, action_of_operation}
+use Rattle.gp_stack.specs.kept.Place.{stepped, turned, left_behind, looped, called, Fit, IsSettled, AtPoint}
 use Rattle.gp_stack.proofs.Moves.{left_skip, left_loop, left_call, left_turned, added_no_loop, added_no_call}
 use Rattle.gp_stack.proofs.Costs.{cost_skip, cost_loop, cost_call, cost_turned}
 

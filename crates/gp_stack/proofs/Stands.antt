@@ -14,10 +14,11 @@ use Rattle.gp_stack.specs.declared.place.Place.{Place}
 use Rattle.gp_stack.specs.declared.statement.Operation.{Operation}
 use Rattle.gp_stack.specs.declared.statement.Operation.TheVariants as operation
 use Rattle.gp_stack.specs.Goroutine.{no_point, next_point, stack_of, is_ended, set_after_all, local_ahead}
-use Rattle.gp_stack.specs.Level.{is_base, body_at, line_at, callers, called_from, leaf_of, left}
-use Rattle.gp_stack.specs.Place.{levels, stepped, IsIn, IsSettled, AtPoint, AtEnd, IsPoint}
-use Rattle.gp_stack.specs.Ahead.{Does, action_of_operation}
-use Rattle.gp_stack.specs.Body.{StandsIn, IsPartOf, IsAtShared}
+use Rattle.gp_stack.specs.kept.Level.{is_base, body_at, line_at, callers, called_from, leaf_of, left}
+use Rattle.gp_stack.specs.kept.Place.{levels, stepped, IsIn, IsSettled, AtPoint, AtEnd, IsPoint}
+use Rattle.gp_stack.specs.kept.Ahead.{Does, action_of_operation}
+use Rattle.gp_stack.specs.Body.{StandsIn, IsAtShared}
+use Rattle.gp_stack.specs.kept.Standing.{IsPartOf}
 use Rattle.gp_stack.proofs.Moves.{added, left_next, left_turned}
 use Rattle.gp_stack.proofs.Points.{local_ahead_more, labels_more, work_left, work_labels, passed_whole, local_ahead_le, next_is, no_local, none_ahead}
 

@@ -1,10 +1,6 @@
 pub mod Goroutine
-pub mod Level
-pub mod Place
-pub mod Ahead
-pub mod Cost
-pub mod Body
-pub mod Climb
-pub mod Word
 pub mod Peek
+pub mod Word
+pub mod Body
 pub mod Record
+pub mod kept

@@ -1,6 +1,7 @@
 ghost use Rattle.std.specs.Prelude.{◌≡◌, ◌+◌, ◌-◌, ◌<◌, ◌≤◌, ◌^◌, ℕ, true, false, length, IfOk, min, map, take, drop};
 ghost use Rattle.gp_isa.specs.declared.parts.Parts.{Parts};
 ghost use Rattle.gp_isa.specs.Calls.{IsProgram};
+ghost use Rattle.gp_isa.specs.Limits.{most_functions};
 ghost use Rattle.gp_isa.specs.Size.{depth_of};
 ghost use Rattle.gp_isa.specs.Trace.{trace, is_local};
 ghost use Rattle.gp_stack.specs.Goroutine.{next_point, is_ended, labels_of, local_ahead, stack_of};
@@ -10,11 +11,11 @@ ghost use Rattle.gp_stack.specs.Body.{Progress, progress_of, HasRoom, StandsIn, 
 ghost use Rattle.gp_stack.specs.Record.{record_of};
 
 use crate::climb::{Climb, leaf, word};
-use crate::level::LOOPS;
 use crate::peek::{Peek, Then, look_work};
 use crate::place::Place;
-use crate::record::{FRAMES, Record, Stack};
+use crate::record::{Record, Stack};
 use crate::statement::Ahead;
+use gp_isa::limits::{GOROUTINE_FRAMES, LOOPS};
 use gp_isa::{Memory, Program};
 use std::alloc::Global;
 
@@ -36,7 +37,7 @@ pub struct Body {
 /// How many calls are followed at most inside each other: one less than a stack has frames.
 fn most_calls(program: &Program) -> u16
     ensures calls { result ≡ depth_of program.now - 1 }
-    ensures few { length program.now.functions ≤ 256 }
+    ensures few { length program.now.functions ≤ most_functions }
     ensures program { IsProgram program.now }
 {
     let _ = program.parts();
@@ -49,7 +50,7 @@ impl Body {
         ensures { IfOk result (λ body. HasRoom program.now body) }
     {
         let most = most_calls(program);
-        let levels = 9 * most as usize + LOOPS as usize;
+        let levels = (LOOPS as usize + 1) * most as usize + LOOPS as usize;
         Ok(Body {
             start: 0,
             set: 0,
@@ -175,7 +176,7 @@ impl Body {
         let stack = if self.is_over(program) {
             Stack::new(alloc)
         } else {
-            self.stack(alloc, program, FRAMES)?
+            self.stack(alloc, program, GOROUTINE_FRAMES)?
         };
         Ok(Record {
             g,

@@ -1,11 +1,12 @@
 ghost use Rattle.std.specs.Prelude.{◌≡◌, ◌+◌, ◌*◌, ◌<◌, ◌≤◌, ◌∷◌, [], MatchOption, IfSome, vec_len, reverse, take};
-ghost use Rattle.gp_stack.specs.Level.{leaf_of, frame_of, callers, is_base};
+ghost use Rattle.gp_stack.specs.kept.Level.{leaf_of, frame_of, callers, is_base};
 ghost use Rattle.gp_isa.specs.declared.parts.Parts.{Parts};
-ghost use Rattle.gp_stack.specs.Climb.{frames_left};
+ghost use Rattle.gp_stack.specs.kept.Climb.{frames_left};
 ghost use Rattle.gp_stack.specs.Word.{word_of};
 
-use crate::level::{LOOPS, Level, body, line};
+use crate::level::{Level, body, line};
 use crate::place::Place;
+use gp_isa::limits::LOOPS;
 use gp_isa::{Frame, Program};
 
 /// A climb from the next point to its callers: how many levels are still above, and whether the level below them is

@@ -1,12 +1,10 @@
 ghost use Rattle.std.specs.Prelude.{◌≡◌, reverse};
 ghost use Rattle.gp_isa.specs.Trace.{body_of};
-ghost use Rattle.gp_stack.specs.Level.{body_at, body_inside, line_at};
+ghost use Rattle.gp_stack.specs.kept.Level.{body_at, body_inside, line_at};
 
 use crate::statement::{Ahead, statement_at};
+use gp_isa::limits::LOOPS;
 use gp_isa::{Parts, Stmt};
-
-/// How many loops may stand inside each other in a function.
-pub(crate) const LOOPS: u8 = 8;
 
 /// A body of statements that a goroutine is in: that of a function, or that of a loop in the body around it.
 ///

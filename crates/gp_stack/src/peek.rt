@@ -1,14 +1,16 @@
 ghost use Rattle.std.specs.Prelude.{◌≡◌, ◌+◌, ◌≤◌, ◌<◌, ◌^◌, ℕ, drop, reverse, replicate, None, []};
 ghost use Rattle.std.specs.Bool.{OnTrue, OnFalse};
 ghost use Rattle.gp_isa.specs.Statement.{Action};
+ghost use Rattle.gp_isa.specs.Limits.{most_loops};
 ghost use Rattle.gp_isa.specs.Trace.{repeated};
-ghost use Rattle.gp_stack.specs.Ahead.{Does};
-ghost use Rattle.gp_stack.specs.Level.{body_at, left_here};
+ghost use Rattle.gp_stack.specs.kept.Ahead.{Does};
+ghost use Rattle.gp_stack.specs.kept.Level.{body_at, left_here};
 ghost use Rattle.gp_stack.specs.declared.peek.Then.TheVariants.{Over};
-ghost use Rattle.gp_stack.specs.Peek.{peek_of, steps, points_of_action, points_of_all};
+ghost use Rattle.gp_stack.specs.kept.Looks.{peek_of, steps, points_of_action, points_of_all};
 
-use crate::level::{LOOPS, Level, body, function_body};
+use crate::level::{Level, body, function_body};
 use crate::statement::{Ahead, Operation, statement_at};
+use gp_isa::limits::LOOPS;
 use gp_isa::{Program, Stmt};
 
 /// What comes behind local points.
@@ -72,7 +74,7 @@ fn look_at(
     at: usize,
     limit: u64,
 ) -> Peek
-    requires { loops ≤ 8 }
+    requires { loops ≤ most_loops }
     ensures { (f line : ℕ) (a : Action) → Does statements.now at a → result ≡ peek_of (steps (points_of_action program.now calls loops f line a)) limit }
 {
     let nothing = Peek {
@@ -116,7 +118,7 @@ pub(crate) fn look_on(
     from: usize,
     limit: u64,
 ) -> Peek
-    requires { loops ≤ 8 }
+    requires { loops ≤ most_loops }
     ensures { (f : ℕ) → result ≡ peek_of (steps (points_of_all program.now calls loops f (drop from statements.now))) limit }
 {
     let mut local = 0;
@@ -148,7 +150,7 @@ pub(crate) fn look_turns(
     n: u32,
     limit: u64,
 ) -> Peek
-    requires { loops ≤ 8 }
+    requires { loops ≤ most_loops }
     ensures { (f : ℕ) → result ≡ peek_of (steps (repeated n (points_of_all program.now calls loops f statements.now))) limit }
 {
     let mut local = 0;
@@ -172,7 +174,7 @@ pub(crate) fn look_turns(
 
 /// The points that are left of a level, `outer` being the levels around it.
 pub(crate) fn look_level(program: &Program, level: Level, outer: &[Level], limit: u64) -> Peek
-    requires { level.loops ≤ 8 }
+    requires { level.loops ≤ most_loops }
     ensures { result ≡ peek_of (steps (left_here program.now level (body_at program.now level (reverse outer.now)))) limit }
 {
     let statements = body(program.parts(), level, outer);

@@ -1,17 +1,18 @@
 ghost use Rattle.std.specs.Prelude.{◌≡◌, ◌+◌, ◌-◌, ◌*◌, ◌<◌, ◌≤◌, ◌^◌, List, [], ◌∷◌, ◌++◌, IsTrue, length, reverse, vec_len, vec_capacity, drop, IfOk, Option};
 ghost use Rattle.std.specs.Bool.{OnTrue, OnFalse};
-ghost use Rattle.gp_stack.specs.Place.{levels, stepped, left_behind, looped, called, room, IsIn, IsSettled};
+ghost use Rattle.gp_stack.specs.kept.Place.{levels, stepped, left_behind, looped, called, levels_from, room, IsIn, IsSettled};
 ghost use Rattle.gp_isa.specs.Trace.{trace, trace_within};
 ghost use Rattle.gp_isa.specs.Size.{depth_of};
-ghost use Rattle.gp_stack.specs.Level.{left, body_at};
-ghost use Rattle.gp_stack.specs.Ahead.{IsAhead, HasNext};
-ghost use Rattle.gp_stack.specs.Peek.{peek_of, steps};
+ghost use Rattle.gp_stack.specs.kept.Level.{left, body_at};
+ghost use Rattle.gp_stack.specs.kept.Ahead.{IsAhead, HasNext};
+ghost use Rattle.gp_stack.specs.kept.Looks.{peek_of, steps};
 ghost use Rattle.gp_stack.specs.declared.statement.Operation.{Operation};
-ghost use Rattle.gp_stack.specs.Cost.{cost};
+ghost use Rattle.gp_stack.specs.kept.Cost.{cost};
 
-use crate::level::{LOOPS, Level, body};
+use crate::level::{Level, body};
 use crate::peek::{Peek, Then, look_level};
 use crate::statement::{Ahead, statement_at};
+use gp_isa::limits::LOOPS;
 use gp_isa::{Memory, Program};
 use std::alloc::Global;
 
@@ -84,7 +85,7 @@ impl Place {
     /// Goes into a loop of `n` turns, at its end, or passes it by where loops stand too deep.
     fn enter_loop(&mut self, n: u32, len: usize)
         requires next { self.old.top.at + 1 < 2 ^ 64 }
-        requires room { vec_len self.old.outer + 9 * self.old.top.calls + self.old.top.loops ≤ vec_capacity self.old.outer }
+        requires room { vec_len self.old.outer + levels_from self.old.top ≤ vec_capacity self.old.outer }
         ensures levels { levels self.new ≡ looped self.old.top.loops n len self.old.top (reverse self.old.outer.items) }
         ensures room { vec_capacity self.new.outer ≡ vec_capacity self.old.outer }
     {
@@ -105,7 +106,7 @@ impl Place {
     /// Goes into function `f`, or passes the call by where calls aren't followed.
     fn enter_call(&mut self, f: u8)
         requires next { self.old.top.at + 1 < 2 ^ 64 }
-        requires room { vec_len self.old.outer + 9 * self.old.top.calls + self.old.top.loops ≤ vec_capacity self.old.outer }
+        requires room { vec_len self.old.outer + levels_from self.old.top ≤ vec_capacity self.old.outer }
         ensures levels { levels self.new ≡ called self.old.top.calls f self.old.top (reverse self.old.outer.items) }
         ensures room { vec_capacity self.new.outer ≡ vec_capacity self.old.outer }
     {

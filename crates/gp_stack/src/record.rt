@@ -1,8 +1,5 @@
 use gp_isa::{Frame, Sequence};
 
-/// How many frames of a goroutine's stack a profile keeps.
-pub(crate) const FRAMES: u32 = 32;
-
 /// A stack: its frames, the leaf first.
 pub type Stack = Sequence<Frame>;
 

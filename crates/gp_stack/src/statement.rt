@@ -1,6 +1,6 @@
 ghost use Rattle.std.specs.Prelude.{◌≡◌, ◌<◌, length, slice_get, OnSome};
 ghost use Rattle.std.specs.Option.{option_copied};
-ghost use Rattle.gp_stack.specs.Ahead.{IsAhead, HasNext};
+ghost use Rattle.gp_stack.specs.kept.Ahead.{IsAhead, HasNext};
 
 use gp_isa::{Stmt, What};
 

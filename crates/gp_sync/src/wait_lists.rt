@@ -1,4 +1,5 @@
 ghost use Rattle.std.specs.Prelude.{◌≡◌, ◌<◌, ◌≤◌, ◌+◌, ◌-◌, ◌^◌, [], ◌∷◌, ◌++◌, length, map, drop, nat_lt, slice_get, IsTrue, IfOk, IfNone, IfSome};
+ghost use Rattle.gp_isa.specs.Limits.{most_channels, most_mutexes};
 ghost use Rattle.gp_sync.specs.Operations.{waiter, send, recv, lock, unlock};
 ghost use Rattle.gp_sync.specs.kept.Links.{BeginsWith};
 ghost use Rattle.gp_sync.specs.kept.WaitList.{IsThere, waiters_in, with_waiters, number_of};
@@ -65,8 +66,8 @@ impl WaitLists {
         mutexes: usize,
         cells: u32,
     ) -> Result<WaitLists, Memory>
-        requires channels { length capacities.items ≤ 1024 }
-        requires mutexes { mutexes ≤ 1024 }
+        requires channels { length capacities.items ≤ most_channels }
+        requires mutexes { mutexes ≤ most_mutexes }
         ensures { IfOk result (λ lists. lists ≡ empty_lists cells capacities.items mutexes) }
     {
         let channels = capacities.len();
@@ -285,8 +286,8 @@ pub fn of_capacities(
     mutexes: usize,
     cells: u32,
 ) -> Result<WaitLists, Memory>
-    requires channels { length capacities.now ≤ 1024 }
-    requires mutexes { mutexes ≤ 1024 }
+    requires channels { length capacities.now ≤ most_channels }
+    requires mutexes { mutexes ≤ most_mutexes }
     ensures { IfOk result (λ lists. lists ≡ empty_lists cells capacities.now mutexes) }
 {
     WaitLists::empty(alloc, Vec::from_slice(alloc, capacities)?, mutexes, cells)

@@ -4,9 +4,10 @@ use Rattle.gp_isa.specs.declared.parts.Parts.{Parts}
 use Rattle.gp_isa.specs.declared.statement.Stmt.{Stmt}
 use Rattle.gp_isa.specs.declared.statement.What.TheOpen.{Call, Loop}
 use Rattle.gp_isa.specs.Statement.{Action, action_of}
+use Rattle.gp_isa.specs.Limits.{most_loops}
 use Rattle.gp_isa.specs.Trace.{body_of}
 use Rattle.gp_stack.specs.declared.level.Level.{Level}
-use Rattle.gp_stack.specs.Level.{body_at}
+use Rattle.gp_stack.specs.kept.Level.{body_at}
 
 abbrev pub cost_of : (ℕ → ℕ) → (List Stmt → ℕ) → Action → ℕ
 cost_of calls inner (Loop n body end) = n * (1 + inner body) + 3
@@ -23,7 +24,7 @@ cost_of_body calls (suc deep) body = total (λ s. cost_of calls (cost_of_body ca
 
 unfoldable pub cost_of_call : Parts → ℕ → ℕ → ℕ
 cost_of_call parts zero f = 0
-cost_of_call parts (suc depth) f = cost_of_body (cost_of_call parts depth) 8 (body_of parts f)
+cost_of_call parts (suc depth) f = cost_of_body (cost_of_call parts depth) most_loops (body_of parts f)
 
 unfoldable pub cost_here : Parts → Level → List Stmt → ℕ
 cost_here parts level body =

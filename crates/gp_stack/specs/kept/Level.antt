@@ -5,13 +5,14 @@ use Rattle.gp_isa.specs.declared.frame.Frame.{Frame}
 use Rattle.gp_isa.specs.declared.parts.Parts.{Parts}
 use Rattle.gp_isa.specs.declared.statement.Stmt.{Stmt}
 use Rattle.gp_isa.specs.declared.statement.What.TheOpen.{Loop}
+use Rattle.gp_isa.specs.Limits.{most_loops}
 use Rattle.gp_isa.specs.Statement.{Action, action_of, line_of}
 use Rattle.gp_isa.specs.Trace.{Point, repeated, points_of_body, body_of, trace_within}
 use Rattle.gp_stack.specs.declared.level.Level.{Level}
 
 -- whether a level is the body of its function, and not of a loop in it
 abbrev pub is_base : Level → Bool
-is_base level = level.loops == 8
+is_base level = level.loops == most_loops
 
 abbrev pub loop_body : Action → List Stmt
 loop_body (Loop n body end) = body

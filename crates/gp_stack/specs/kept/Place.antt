@@ -1,13 +1,14 @@
 -- Places in a trace, and the moves between them that pass no point.
 use Rattle.std.specs.Prelude.{◌≡◌, ◌+◌, ◌-◌, ◌*◌, ◌≤◌, ℕ, zero, suc, List, [], ◌∷◌, length, reverse, vec_capacity}
 use Rattle.gp_isa.specs.declared.parts.Parts.{Parts}
+use Rattle.gp_isa.specs.Limits.{most_loops}
 use Rattle.gp_isa.specs.Size.{depth_of}
 use Rattle.gp_isa.specs.declared.statement.What.TheOpen.{Work, Call, Loop}
 use Rattle.gp_isa.specs.Statement.{Action}
 use Rattle.gp_stack.specs.declared.level.Level.{Level}
 use Rattle.gp_stack.specs.declared.place.Place.{Place}
-use Rattle.gp_stack.specs.Level.{body_at}
-use Rattle.gp_stack.specs.Ahead.{Does}
+use Rattle.gp_stack.specs.kept.Level.{body_at}
+use Rattle.gp_stack.specs.kept.Ahead.{Does}
 
 -- the levels of a place, the innermost first
 abbrev pub levels : Place → List Level
@@ -38,16 +39,21 @@ looped (suc loops) n len level outer =
 abbrev pub called : ℕ → ℕ → Level → List Level → List Level
 called zero f level outer = stepped (level ∷ outer)
 called (suc calls) f level outer =
-    record { at = 0; turns = 0; calls = calls; function = f; loops = 8 } ∷ stepped (level ∷ outer)
+    record { at = 0; turns = 0; calls = calls; function = f; loops = most_loops } ∷ stepped (level ∷ outer)
 
--- How many levels stand around another one at most: nine for each frame, the innermost one apart.
+-- How many levels may still be entered from a level: those of the loops of its function, and for each call that is
+-- followed that of the function called and of its loops.
+abbrev pub levels_from : Level → ℕ
+levels_from level = (most_loops + 1) * level.calls + level.loops
+
+-- How many levels stand around another one at most, the innermost one apart.
 abbrev pub room : Parts → ℕ
-room parts = 9 * (depth_of parts - 1) + 8
+room parts = (most_loops + 1) * (depth_of parts - 1) + most_loops
 
 -- Each level leaves room for those that may still be entered from it.
 abbrev pub Fit : ℕ → List Level → Type 0
 Fit most [] = Unit {0}
-Fit most (level ∷ outer) = (length outer + 9 * level.calls + level.loops ≤ most) × (level.loops ≤ 8) × Fit most outer
+Fit most (level ∷ outer) = (length outer + levels_from level ≤ most) × (level.loops ≤ most_loops) × Fit most outer
 
 -- a place has the room that a program wants
 pub record IsIn (parts : Parts) (place : Place) : Type 0 where

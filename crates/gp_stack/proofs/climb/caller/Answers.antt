@@ -1,5 +1,5 @@
 use Rattle.std.proofs.Common.{refl}
-use Rattle.gp_stack.specs.Level.{frame_of}
+use Rattle.gp_stack.specs.kept.Level.{frame_of}
 use Rattle.gp_stack.proofs.climb.caller.Goals as goal
 
 pub returns : goal.returns

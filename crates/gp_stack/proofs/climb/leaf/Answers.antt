@@ -1,5 +1,5 @@
 use Rattle.std.proofs.Common.{refl}
-use Rattle.gp_stack.specs.Level.{leaf_of}
+use Rattle.gp_stack.specs.kept.Level.{leaf_of}
 use Rattle.gp_stack.proofs.climb.leaf.Goals as goal
 
 pub returns : goal.returns

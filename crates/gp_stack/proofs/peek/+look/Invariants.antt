@@ -1,6 +1,6 @@
 use Rattle.std.proofs.Common.{◌≤◌, ◌-◌, ◌+◌, ◌*◌, ℕ, length, drop}
 use Rattle.gp_isa.specs.Trace.{repeated}
-use Rattle.gp_stack.specs.Peek.{steps, points_of_all}
+use Rattle.gp_stack.specs.kept.Looks.{steps, points_of_all}
 use Rattle.gp_stack.proofs.Peeks.{Sees}
 use Rattle.gp_stack.proofs.peek.+look.Given as goal
 

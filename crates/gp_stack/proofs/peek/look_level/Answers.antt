@@ -1,5 +1,5 @@
 use Rattle.std.proofs.Common.{◌≤◌, ◌-◌, refl, reverse, arith}
-use Rattle.gp_stack.specs.Level.{body_at}
+use Rattle.gp_stack.specs.kept.Level.{body_at}
 use Rattle.gp_stack.proofs.Looking.{level_stop, level_on, on_few, turns_few}
 use Rattle.gp_stack.proofs.peek.look_level.Goals as goal
 

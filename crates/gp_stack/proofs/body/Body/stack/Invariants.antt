@@ -1,5 +1,5 @@
 use Rattle.std.proofs.Common.{◌≡◌, ◌≤◌, ◌-◌, ◌++◌, length, vec_len}
-use Rattle.gp_stack.specs.Climb.{frames_left}
+use Rattle.gp_stack.specs.kept.Climb.{frames_left}
 use Rattle.gp_stack.proofs.Stands.{frames_of}
 use Rattle.gp_stack.proofs.body.Body.stack.Given as goal
 

@@ -1,6 +1,6 @@
 use Rattle.std.proofs.Common.{rules, ◌≡◌, ◌≤◌, ◌<◌, ◌∷◌, ◌∙◌, ap, sym, arith, take, drop, map, length, min}
 use Rattle.std.proofs.lemmas.List.{length-set}
-use Rattle.gp_stack.specs.Climb.{frames_left}
+use Rattle.gp_stack.specs.kept.Climb.{frames_left}
 use Rattle.gp_stack.specs.Word.{word_of}
 use Rattle.gp_stack.proofs.Shown.{words_more, left_more, there_more, rest_more, min_full, min_all, words_first, rest_first}
 use Rattle.gp_stack.proofs.Stands.{frames_of, stack_is}

@@ -1,7 +1,7 @@
 use Rattle.std.proofs.Common.{rules, ap, reverse}
 use Rattle.std.proofs.lemmas.List.{take_all}
-use Rattle.gp_stack.specs.Level.{callers, is_base}
-use Rattle.gp_stack.specs.Climb.{frames_left}
+use Rattle.gp_stack.specs.kept.Level.{callers, is_base}
+use Rattle.gp_stack.specs.kept.Climb.{frames_left}
 use Rattle.gp_stack.proofs.climb.Climb.new.Goals as goal
 
 pub returns-clause-frames : goal.returns-clause-frames

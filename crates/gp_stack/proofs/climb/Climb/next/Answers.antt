@@ -1,5 +1,5 @@
 use Rattle.std.proofs.Common.{rules, ◌≤◌, ◌-◌, nat_eq, length, arith, ◌∙◌, ap, sym, ◌∷◌}
-use Rattle.gp_stack.specs.Climb.{frames_left}
+use Rattle.gp_stack.specs.kept.Climb.{frames_left}
 use Rattle.gp_stack.proofs.Climbing.{climb_called, climb_looped, climb_over}
 use Rattle.gp_stack.proofs.climb.Climb.next.Goals as goal
 

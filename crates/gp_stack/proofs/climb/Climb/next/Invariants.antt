@@ -1,5 +1,5 @@
 use Rattle.std.proofs.Common.{◌≡◌, ◌≤◌, vec_len}
-use Rattle.gp_stack.specs.Climb.{frames_left}
+use Rattle.gp_stack.specs.kept.Climb.{frames_left}
 use Rattle.gp_stack.proofs.climb.Climb.next.Given as goal
 
 abbrev pub invariant-loop-self : goal.invariant-loop-self

@@ -1,9 +1,9 @@
 use Rattle.std.proofs.Common.{rules, ◌≡◌, ◌≤◌, ◌-◌, ◌+◌, List, reverse, take, length, arith, sym, subst}
 use Rattle.std.proofs.lemmas.List.{take_all}
 use Rattle.gp_stack.specs.declared.level.Level.{Level}
-use Rattle.gp_stack.specs.Level.{left}
-use Rattle.gp_stack.specs.Peek.{steps}
-use Rattle.gp_stack.specs.Place.{levels, stepped, room, Fit}
+use Rattle.gp_stack.specs.kept.Level.{left}
+use Rattle.gp_stack.specs.kept.Looks.{steps}
+use Rattle.gp_stack.specs.kept.Place.{levels, stepped, room, Fit}
 use Rattle.gp_stack.proofs.Peeks.{Sees}
 use Rattle.gp_stack.proofs.Looking.{LevelSeen, first_stop, first_on, level_few, outer_on, outer_stop, outer_end, fit_inner}
 use Rattle.gp_stack.proofs.place.Place.look_behind.Goals as goal

@@ -1,7 +1,7 @@
 use Rattle.std.proofs.Common.{◌≤◌, reverse, take, vec_len}
-use Rattle.gp_stack.specs.Level.{left}
-use Rattle.gp_stack.specs.Place.{levels, stepped, room, Fit}
-use Rattle.gp_stack.specs.Peek.{steps}
+use Rattle.gp_stack.specs.kept.Level.{left}
+use Rattle.gp_stack.specs.kept.Place.{levels, stepped, room, Fit}
+use Rattle.gp_stack.specs.kept.Looks.{steps}
 use Rattle.gp_stack.proofs.Peeks.{Sees}
 use Rattle.gp_stack.proofs.place.Place.look_behind.Given as goal
 

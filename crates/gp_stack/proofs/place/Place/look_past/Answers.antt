@@ -1,7 +1,7 @@
 use Rattle.std.proofs.Common.{◌≤◌, ◌-◌, arith}
-use Rattle.gp_stack.specs.Level.{left}
-use Rattle.gp_stack.specs.Peek.{steps}
-use Rattle.gp_stack.specs.Place.{levels, stepped}
+use Rattle.gp_stack.specs.kept.Level.{left}
+use Rattle.gp_stack.specs.kept.Looks.{steps}
+use Rattle.gp_stack.specs.kept.Place.{levels, stepped}
 use Rattle.gp_stack.proofs.Peeks.{peek_few}
 use Rattle.gp_stack.proofs.Looking.{past_stop, past_on}
 use Rattle.gp_stack.proofs.place.Place.look_past.Goals as goal

@@ -1,7 +1,7 @@
 use Rattle.std.proofs.Common.{◌≡◌}
-use Rattle.gp_stack.specs.Place.{levels, IsIn}
-use Rattle.gp_stack.specs.Level.{left}
-use Rattle.gp_stack.specs.Cost.{cost}
+use Rattle.gp_stack.specs.kept.Place.{levels, IsIn}
+use Rattle.gp_stack.specs.kept.Level.{left}
+use Rattle.gp_stack.specs.kept.Cost.{cost}
 use Rattle.gp_stack.proofs.place.Place.settle.Given as goal
 
 abbrev pub invariant-loop : goal.invariant-loop

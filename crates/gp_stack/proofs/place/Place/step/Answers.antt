@@ -1,7 +1,7 @@
 use Rattle.std.proofs.Common.{reverse, refl, ap, arith}
 use Rattle.gp_isa.specs.declared.statement.What.TheOpen.{Work, Call, Labels}
 use Rattle.gp_isa.specs.Statement.{line_of}
-use Rattle.gp_stack.specs.Place.{levels, AtPoint}
+use Rattle.gp_stack.specs.kept.Place.{levels, AtPoint}
 use Rattle.gp_stack.proofs.Moves.{added, left_skip, added_no_function}
 use Rattle.gp_stack.proofs.Costs.{cost_skip}
 use Rattle.gp_stack.proofs.Settle.{left_end, falls_end, left_looped, cost_looped, left_called, cost_called, shared_settled}
