@@ -1,10 +1,10 @@
 -- A source, a store and a sink in memory: what each holds, and which of its calls are to fail.
-use Rattle.std.specs.Prelude.{ℕ, ◌+◌, ◌-◌, ◌^◌, min, List, Contains}
-use Rattle.gp_io.specs.Outside.{File}
+use Rattle.std.specs.Prelude.{ℕ, List, Contains}
+use Rattle.gp_io.specs.Outside.{File, raised_by}
 
 -- A count and one more. At the end of its type, 2 ^ 64 - 1, it stands still.
 abbrev pub raised : ℕ → ℕ
-raised count = min (count + 1) (2 ^ 64 - 1)
+raised count = raised_by 1 count
 
 -- The numbers of the calls that are to fail, counted from 1, how many calls were made, and how many of these failed.
 pub record Plan : Type 0 where

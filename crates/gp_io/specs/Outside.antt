@@ -1,6 +1,7 @@
 -- What calls of the outside do: counts of faults, bytes taken, files put, bytes appended.
--- What a source has left, a store holds and a sink was given is told by `Some`; by `None` nothing is told.
-use Rattle.std.specs.Prelude.{◌≡◌, ℕ, ◌+◌, ◌-◌, ◌^◌, ◌≤◌, min, not, List, [], ◌∷◌, ◌++◌, filter, take, length, Option, Some, None}
+-- What a source has left, what a store holds and how many puts it was asked for, and what a sink was given is told by
+-- `Some`; by `None` nothing is told.
+use Rattle.std.specs.Prelude.{◌≡◌, ℕ, zero, suc, ◌+◌, ◌-◌, ◌^◌, ◌≤◌, min, not, List, [], ◌∷◌, ◌++◌, filter, take, length, Option, Some, None}
 use Rattle.std.specs.Str.{bytes_eq}
 
 -- A count of faults rose. At the end of its type, 2 ^ 64 - 1, it stands still.
@@ -12,6 +13,16 @@ pub record Rose (before now : ℕ) : Type 0 where
 abbrev pub Takes : Option (List ℕ) → List ℕ → Option (List ℕ) → Type 0
 Takes None bytes new = Unit {0}
 Takes (Some held) bytes new = (rest : List ℕ) × (held ≡ bytes ++ rest) × (new ≡ Some rest)
+
+-- A count after some more. At the end of its type, 2 ^ 64 - 1, it stands still.
+abbrev pub raised_by : ℕ → ℕ → ℕ
+raised_by zero count = count
+raised_by (suc n) count = min (raised_by n count + 1) (2 ^ 64 - 1)
+
+-- A count of calls rose by this many.
+abbrev pub RoseBy : ℕ → Option ℕ → Option ℕ → Type 0
+RoseBy n None now = Unit {0}
+RoseBy n (Some before) now = now ≡ Some (raised_by n before)
 
 -- Some bytes came from the front of what was left, at most this many.
 abbrev pub TakesAtMost : ℕ → Option (List ℕ) → Option (List ℕ) → Type 0

@@ -2,15 +2,17 @@
 //!
 //! Each of the three is a trait with one call. A call that fails raises the value's count of faults, and a
 //! call that succeeds leaves it, so whoever knows the counts before and after knows whether something failed
-//! in between. A count that has come to 2^64 - 1 stands still. What a source has left, a store holds and a sink
-//! was given is told by the implementations in memory, and by none of the real ones.
+//! in between. A count that has come to 2^64 - 1 stands still. What a source has left, what a store holds and how many
+//! puts it was asked for, and what a sink was given is told by the implementations in memory, and by none of the real ones.
 //!
 //! Those in memory ([`MemSource`], [`MemStore`], [`MemSink`]) are given the numbers of the calls that are to
 //! fail. A call that fails, for its number or for want of memory, leaves what is held as it was.
 //!
 //! The real ones turn each error of the system into a fault. [`FileSource`] opens its path at its first read.
 //! [`FolderStore`] writes a file under a name that isn't taken and renames it, so that nothing half-written
-//! ever stands under the file's own name. For [`StandardOutput`] a write that takes nothing is a fault.
+//! ever stands under the file's own name. What such a put answers follows from what the system's calls answered
+//! (`PutsWell` and `PutsInVain` of `specs/OfSystem.antt`): it goes over a folder with four calls, each of which is one of
+//! the system's. For [`StandardOutput`] a write that takes nothing is a fault.
 //!
 //! [`read_all`] reads a source to its end, and takes at most one byte more than its limit to know that there
 //! is more.

@@ -1,5 +1,7 @@
 mod file_source;
+mod folder;
 mod folder_store;
+mod put_whole;
 mod standard_output;
 
 pub use file_source::FileSource;

@@ -1,5 +1,5 @@
 ghost use Rattle.std.specs.Prelude.{◌≡◌, [], List, ℕ, Option, Some, IsErr, OnOk, OnErr};
-ghost use Rattle.gp_io.specs.Outside.{Rose, File, Puts, KeepsOthers, with_file};
+ghost use Rattle.gp_io.specs.Outside.{Rose, RoseBy, File, Puts, KeepsOthers, with_file};
 ghost use Rattle.gp_io.specs.InMemory.{unused, IsNextToFail, after_success, after_fault};
 
 use crate::memory::plan::{Calls, FaultPlan};
@@ -85,6 +85,8 @@ impl Store for MemStore {
 
     ghost files = { λ s. Some s.files };
 
+    ghost asked = { λ s. Some s.plan.calls };
+
     /// Puts a file at the end, in place of one of its name. A call that fails leaves the files as they were.
     fn put(&mut self, name: &str, bytes: &[u8]) -> Result<(), Failed>
         ensures fails { IsNextToFail self.old.plan → IsErr result }
@@ -94,6 +96,7 @@ impl Store for MemStore {
 
         ensures put { OnOk result (Puts (Some self.old.files) name.now bytes.now (Some self.new.files)) }
         ensures others { OnErr result (KeepsOthers (Some self.old.files) name.now (Some self.new.files)) }
+        ensures counted { RoseBy 1 (Some self.old.plan.calls) (Some self.new.plan.calls) }
         ensures well { OnOk result (self.new.plan.faults ≡ self.old.plan.faults) }
         ensures failed { OnErr result (Rose self.old.plan.faults self.new.plan.faults) }
     {
