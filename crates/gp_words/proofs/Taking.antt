@@ -6,7 +6,7 @@ use Rattle.std.specs.Global.{Global}
 use Rattle.gp_words.specs.declared.error.WordError.{WordError}
 use Rattle.gp_words.specs.declared.error.WordError.TheVariants.{Usage, Memory}
 use Rattle.std.proofs.lemmas.Bool.{lt-ltb, le-ltb, ltb-true}
-use Rattle.gp_words.specs.declared.cause.TheConstants.{UNKNOWN_OPTION, TWICE}
+use Rattle.gp_words.specs.Causes.{unknown_option, twice}
 use Rattle.gp_words.specs.declared.setting.Setting.{Setting}
 use Rattle.gp_words.specs.declared.choice.Choice.{Choice}
 use Rattle.gp_words.specs.declared.choice.Value.{Value}
@@ -16,16 +16,18 @@ use Rattle.gp_words.specs.Table.{setting_of, values_of, most_times}
 use Rattle.gp_words.specs.Read.{Read, Names, Faults, and_then, IsFault, Reads}
 use Rattle.gp_words.specs.Options.{value_of, times, place_behind, choice_at, choice_of_setting, choice_of_named, choice_of, options_of, IsInTable}
 
-pub unknown : (taken : List Choice) (word : List ℕ) (value : Option (List ℕ)) → setting_of word ≡ None → choice_of taken word value ≡ Faults (place_behind taken) UNKNOWN_OPTION
+pub unknown : (taken : List Choice) (word : List ℕ) (value : Option (List ℕ)) → setting_of word ≡ None → choice_of taken word value ≡ Faults (place_behind taken) unknown_option
 unfolding choice_of
 unknown taken word value e = ap (λ o. choice_of_named taken o value) e
 
-pub twice : (taken : List Choice) (word : List ℕ) (value : Option (List ℕ)) (setting : Setting) → setting_of word ≡ Some setting → most_times setting ≤ times setting taken → choice_of taken word value ≡ Faults (place_behind taken) TWICE
+pub given_too_often : (taken : List Choice) (word : List ℕ) (value : Option (List ℕ)) (setting : Setting) → setting_of word ≡ Some setting → most_times setting ≤ times setting taken
+    → choice_of taken word value ≡ Faults (place_behind taken) twice
 unfolding choice_of
-twice taken word value setting e often = ap (λ o. choice_of_named taken o value) e ∙ simp (le-ltb (times setting taken) (most_times setting) often)
+given_too_often taken word value setting e often = ap (λ o. choice_of_named taken o value) e ∙ simp (le-ltb (times setting taken) (most_times setting) often)
 
 -- an option whose word names a setting that may be given
-pub allowed : (taken : List Choice) (word : List ℕ) (value : Option (List ℕ)) (setting : Setting) → setting_of word ≡ Some setting → times setting taken < most_times setting → choice_of taken word value ≡ choice_of_setting (place_behind taken + 1) setting value
+pub allowed : (taken : List Choice) (word : List ℕ) (value : Option (List ℕ)) (setting : Setting) → setting_of word ≡ Some setting → times setting taken < most_times setting
+    → choice_of taken word value ≡ choice_of_setting (place_behind taken + 1) setting value
 unfolding choice_of
 allowed taken word value setting e fewer = ap (λ o. choice_of_named taken o value) e ∙ simp (lt-ltb (times setting taken) (most_times setting) fewer)
 
@@ -53,7 +55,7 @@ right_known : (taken : List Choice) (o : Option Setting) (value : Option (List �
 right_known taken None value choice e = absurd cc
 right_known taken (Some setting) value choice e = go (ltb (times setting taken) (most_times setting)) refl e where
   go : (b : Bool) → ltb (times setting taken) (most_times setting) ≡ b
-      → cond b (choice_of_setting (place_behind taken + 1) setting value) (Faults (place_behind taken) TWICE) ≡ Names choice → IsRight taken value choice
+      → cond b (choice_of_setting (place_behind taken + 1) setting value) (Faults (place_behind taken) twice) ≡ Names choice → IsRight taken value choice
   go true fewer e = right_there taken (place_behind taken + 1) setting value choice (ltb-true (times setting taken) (most_times setting) fewer) e
   go false often e = absurd cc
 

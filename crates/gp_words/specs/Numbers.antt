@@ -3,10 +3,11 @@ use Rattle.std.specs.Prelude.{◌==◌, ◌^◌, ◌-◌, ℕ, Bool, ◌&&◌, L
 use Rattle.std.specs.List.{slice_split}
 use Rattle.std.specs.Str.{all_ascii_digits}
 use Rattle.std.specs.Str.Parse.{digits_value}
+use Rattle.gp_isa.specs.Limits.{number_digits, most_picks}
 
 -- one to twenty digits, leading zeros among them
 unfoldable pub is_number : List ℕ → Bool
-is_number word = nat_le 1 (length word) && (nat_le (length word) 20 && all_ascii_digits word)
+is_number word = nat_le 1 (length word) && (nat_le (length word) number_digits && all_ascii_digits word)
 
 -- the number that a word writes, where it lies from `least` to `most`
 unfoldable pub number_in : ℕ → ℕ → List ℕ → Option ℕ
@@ -30,4 +31,4 @@ pieces_of word = slice_split (λ b. b == 44) word
 
 -- the numbers that a word writes, joined by single commas: up to 100,000, each below 2^32
 unfoldable pub picks_of : List ℕ → Option (List ℕ)
-picks_of word = if nat_le (length (pieces_of word)) 100000 then numbers_of (pieces_of word) else None
+picks_of word = if nat_le (length (pieces_of word)) most_picks then numbers_of (pieces_of word) else None

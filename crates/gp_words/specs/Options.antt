@@ -1,8 +1,9 @@
 -- The options of a command: each is a word and its value.
-use Rattle.std.specs.Prelude.{◌≤◌, ◌+◌, ◌*◌, ◌^◌, ℕ, List, [], ◌∷◌, ◌++◌, length, All, Option, Some, None, option_map, count_by, codes, nat_lt, if◌then◌else◌}
+use Rattle.std.specs.Prelude.{◌≤◌, ◌+◌, ◌*◌, ℕ, List, [], ◌∷◌, ◌++◌, length, All, Option, Some, None, option_map, count_by, codes, nat_lt, if◌then◌else◌}
 use Rattle.std.specs.Str.{bytes_eq}
+use Rattle.gp_isa.specs.Limits.{most_instant}
 use Rattle.gp_machine.specs.declared.settings.Request.TheVariants.{Clock, End}
-use Rattle.gp_words.specs.declared.cause.TheConstants.{MISSING, UNKNOWN_OPTION, BAD_NUMBER, TWICE}
+use Rattle.gp_words.specs.Causes.{missing, unknown_option, bad_number, twice}
 use Rattle.gp_words.specs.declared.setting.Setting.{Setting}
 use Rattle.gp_words.specs.declared.setting.Values.{Values}
 use Rattle.gp_words.specs.declared.setting.Values.TheVariants.{Numbers, Instants, Lists}
@@ -16,7 +17,8 @@ use Rattle.gp_words.specs.Read.{Read, Names, Faults, and_then}
 -- the value that a word writes, where it's one of these values
 unfoldable pub value_of : Values → List ℕ → Option Value
 value_of (Numbers least most) word = option_map Number (number_in least most word)
-value_of Instants word = if bytes_eq word (codes "end") then Some (Instant End) else option_map (λ n. Instant (Clock n)) (number_in 0 (2 ^ 40) word)
+value_of Instants word =
+    if bytes_eq word (codes "end") then Some (Instant End) else option_map (λ n. Instant (Clock n)) (number_in 0 most_instant word)
 value_of Lists word = option_map Listed (picks_of word)
 
 -- how often a setting was chosen
@@ -29,20 +31,20 @@ place_behind taken = 2 + 2 * length taken
 
 -- the choice of a setting with the value that its word wrote, or the fault at the value's place
 abbrev pub choice_at : ℕ → Setting → Option Value → Read Choice
-choice_at place setting None = Faults place BAD_NUMBER
+choice_at place setting None = Faults place bad_number
 choice_at place setting (Some value) = Names (record { setting = setting; value = value })
 
 -- the choice of a setting, with the word at the value's place
 abbrev pub choice_of_setting : ℕ → Setting → Option (List ℕ) → Read Choice
-choice_of_setting place setting None = Faults place MISSING
+choice_of_setting place setting None = Faults place missing
 choice_of_setting place setting (Some word) = choice_at place setting (value_of (values_of setting) word)
 
 -- the choice of a word that names a setting, or none, behind the options taken
 abbrev pub choice_of_named : List Choice → Option Setting → Option (List ℕ) → Read Choice
-choice_of_named taken None value = Faults (place_behind taken) UNKNOWN_OPTION
+choice_of_named taken None value = Faults (place_behind taken) unknown_option
 choice_of_named taken (Some setting) value =
     if nat_lt (times setting taken) (most_times setting) then choice_of_setting (place_behind taken + 1) setting value
-    else Faults (place_behind taken) TWICE
+    else Faults (place_behind taken) twice
 
 -- the choice of an option: its word, and its value's where there is one; behind the options taken
 unfoldable pub choice_of : List Choice → List ℕ → Option (List ℕ) → Read Choice

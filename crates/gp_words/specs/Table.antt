@@ -1,6 +1,7 @@
 -- The table of options: their words, their values, and how often each may be given.
 use Rattle.std.specs.Prelude.{◌≤◌, ◌<◌, ◌==◌, ◌^◌, ◌-◌, ℕ, Bool, List, length, All, Option, Some, None, codes, if◌then◌else◌}
 use Rattle.std.specs.Str.{bytes_eq}
+use Rattle.gp_isa.specs.Limits.{most_workers, most_requests, most_room, most_cells, least_entries, most_entries, most_picks}
 use Rattle.gp_machine.specs.Settings.{IsInstant}
 use Rattle.gp_words.specs.declared.setting.Setting.{Setting}
 use Rattle.gp_words.specs.declared.setting.Setting.TheVariants.{Workers, At, Room, Seed, Cells, Entries, Picks}
@@ -22,17 +23,17 @@ setting_of word =
 
 -- the values of a setting
 abbrev pub values_of : Setting → Values
-values_of Workers = Numbers 1 16
+values_of Workers = Numbers 1 most_workers
 values_of At = Instants
-values_of Room = Numbers 0 16384
+values_of Room = Numbers 0 most_room
 values_of Seed = Numbers 0 (2 ^ 64 - 1)
-values_of Cells = Numbers 1 16384
-values_of Entries = Numbers 16 4194304
+values_of Cells = Numbers 1 most_cells
+values_of Entries = Numbers least_entries most_entries
 values_of Picks = Lists
 
 -- how often a setting may be given
 abbrev pub most_times : Setting → ℕ
-most_times At = 8
+most_times At = most_requests
 most_times Workers = 1
 most_times Room = 1
 most_times Seed = 1
@@ -64,4 +65,4 @@ IsOneOf Instants (Instant request) = IsInstant request
 IsOneOf Instants (Listed ns) = ⊥
 IsOneOf Lists (Number n) = ⊥
 IsOneOf Lists (Instant request) = ⊥
-IsOneOf Lists (Listed ns) = (length ns ≤ 100000) × All (λ n. n < 2 ^ 32) ns
+IsOneOf Lists (Listed ns) = (length ns ≤ most_picks) × All (λ n. n < 2 ^ 32) ns

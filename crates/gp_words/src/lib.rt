@@ -21,10 +21,11 @@
 //! there, and that before a value outside the table.
 //!
 //! The definitions are in `specs/`, to be read in the order of `specs/Lib.antt`: what words write (`Numbers`), the table
-//! of options (`Table`), what words say or the first fault in them (`Read`), the options (`Options`), their settings
-//! (`Settings`) and the whole command (`Job`). They go over the list of words, two at a time, with the options taken so
-//! far: how often one was given is counted in that list, and the settings are looked up in it. `job` answers just
-//! `job_of` of its words, or want of memory. So a place is at most 30, and each byte of the words is read once.
+//! of options (`Table`), the numbers of causes (`Causes`), what words say or the first fault in them (`Read`), the options
+//! (`Options`), their settings (`Settings`) and the whole command (`Job`). They go over the list of words, two at a time,
+//! with the options taken so far: how often one was given is counted in that list, and the settings are looked up in it.
+//! `job` answers just `job_of` of its words, or want of memory. So a place is at most 30, and each byte of the words is
+//! read once.
 #![tactic(auto)]
 
 /// The causes of faults in command words, by number.

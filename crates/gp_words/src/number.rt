@@ -2,8 +2,7 @@ ghost use Rattle.std.specs.Prelude.{◌≡◌};
 ghost use Rattle.std.specs.Str.{all_ascii_digits};
 ghost use Rattle.gp_words.specs.Numbers.{is_number, number_in};
 
-/// The most digits of a number, leading zeros among them.
-const MOST_DIGITS: usize = 20;
+use gp_isa::limits;
 
 fn are_digits(word: &[u8]) -> bool
     ensures { result ≡ all_ascii_digits word.now }
@@ -11,12 +10,12 @@ fn are_digits(word: &[u8]) -> bool
     word.iter().all(|byte| byte.is_ascii_digit())
 }
 
-/// Whether a word is one to twenty digits.
+/// Whether a word is one to twenty digits, leading zeros among them.
 fn is_number(word: &str) -> bool
     ensures { result ≡ is_number word.now }
 {
     let digits = word.as_bytes();
-    if digits.is_empty() || digits.len() > MOST_DIGITS {
+    if digits.is_empty() || digits.len() > limits::NUMBER_DIGITS {
         return false;
     }
     are_digits(digits)

@@ -11,7 +11,7 @@ use crate::error::WordError;
 use crate::number::number;
 use crate::picks::picks;
 use crate::setting::{Setting, Values};
-use gp_isa::Memory;
+use gp_isa::{Memory, limits};
 use gp_machine::Request;
 use std::alloc::Global;
 
@@ -24,7 +24,7 @@ fn instant(word: &str) -> Option<Value>
             request: Request::End,
         });
     }
-    let clock = number(word, 0, 1 << 40)?;
+    let clock = number(word, 0, limits::INSTANT)?;
     Some(Value::Instant {
         request: Request::Clock { clock },
     })

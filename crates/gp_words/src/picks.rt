@@ -2,12 +2,9 @@ ghost use Rattle.std.specs.Prelude.{◌≡◌, IfOk};
 ghost use Rattle.gp_words.specs.Numbers.{picks_of};
 
 use crate::number::number;
-use gp_isa::Memory;
+use gp_isa::{Memory, limits};
 use gp_machine::Picks;
 use std::alloc::Global;
-
-/// The most numbers of a list.
-const MOST: usize = 100_000;
 
 /// The numbers that a word writes, joined by commas.
 pub(crate) fn picks(alloc: Global, word: &str) -> Result<Option<Picks>, Memory>
@@ -18,7 +15,7 @@ pub(crate) fn picks(alloc: Global, word: &str) -> Result<Option<Picks>, Memory>
         let Some(pick) = number(piece, 0, u64::from(u32::MAX)) else {
             return Ok(None);
         };
-        if picks.len() == MOST {
+        if picks.len() == limits::PICKS {
             return Ok(None);
         }
         picks.push(pick as u32)?;

@@ -1,6 +1,8 @@
 ghost use Rattle.std.specs.Prelude.{◌≡◌};
 ghost use Rattle.gp_words.specs.Table.{setting_of, values_of, most_times, same};
 
+use gp_isa::limits;
+
 /// What an option sets.
 #[derive(Clone, Copy, Debug, PartialEq, Eq)]
 pub(crate) enum Setting {
@@ -46,11 +48,14 @@ impl Setting {
         ensures { result ≡ values_of self }
     {
         match self {
-            Setting::Workers => Values::Numbers { least: 1, most: 16 },
+            Setting::Workers => Values::Numbers {
+                least: 1,
+                most: u64::from(limits::WORKERS),
+            },
             Setting::At => Values::Instants,
             Setting::Room => Values::Numbers {
                 least: 0,
-                most: 16_384,
+                most: u64::from(limits::ROOM),
             },
             Setting::Seed => Values::Numbers {
                 least: 0,
@@ -58,11 +63,11 @@ impl Setting {
             },
             Setting::Cells => Values::Numbers {
                 least: 1,
-                most: 16_384,
+                most: u64::from(limits::CELLS),
             },
             Setting::Entries => Values::Numbers {
-                least: 16,
-                most: 4_194_304,
+                least: u64::from(limits::LEAST_ENTRIES),
+                most: u64::from(limits::ENTRIES),
             },
             Setting::Picks => Values::Lists,
         }
@@ -73,7 +78,7 @@ impl Setting {
         ensures { result ≡ most_times self }
     {
         match self {
-            Setting::At => 8,
+            Setting::At => limits::REQUESTS,
             Setting::Workers
             | Setting::Room
             | Setting::Seed

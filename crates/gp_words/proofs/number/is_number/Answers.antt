@@ -3,7 +3,7 @@ use Rattle.std.specs.Str.{all_ascii_digits}
 use Rattle.std.proofs.lemmas.Bool.{eqb-true, eqb-false}
 use Rattle.gp_words.proofs.Digits.{none_empty, none_long, number_if}
 use Rattle.gp_words.proofs.number.is_number.Goals as goal
-use Rattle.gp_words.proofs.number.is_number.Goals.{then-is_empty-via-then-is_empty, then-is_empty-via-else-is_empty+then-digits-gt-MOST_DIGITS}
+use Rattle.gp_words.proofs.number.is_number.Goals.{then-is_empty-via-then-is_empty, then-is_empty-via-else-is_empty+then-digits-gt-NUMBER_DIGITS}
 
 pub returns-then-is_empty : goal.returns-then-is_empty
 returns-then-is_empty c =
@@ -13,7 +13,7 @@ returns-then-is_empty c =
       | then-is_empty-via-then-is_empty w ↦
           let none = eqb-true (length c.as_bytes-digits.result.now) 0 (sym (w.if-is_empty.ensures)) in
           sym (none_empty word (omega arith))
-      | then-is_empty-via-else-is_empty+then-digits-gt-MOST_DIGITS w ↦ sym (none_long word (omega arith))
+      | then-is_empty-via-else-is_empty+then-digits-gt-NUMBER_DIGITS w ↦ sym (none_long word (omega arith))
     ]
 
 pub returns : goal.returns

@@ -2,7 +2,7 @@ use Rattle.std.proofs.Common.{◌≡◌, ◌+◌, Some, None, sym, ap, ◌∙◌
 use Rattle.gp_words.specs.Table.{setting_of, values_of}
 use Rattle.gp_words.specs.Options.{value_of, place_behind, choice_of_setting, choice_at}
 use Rattle.gp_words.proofs.Sound.{few}
-use Rattle.gp_words.proofs.Taking.{unknown, twice, allowed}
+use Rattle.gp_words.proofs.Taking.{unknown, given_too_often, allowed}
 use Rattle.gp_words.proofs.options.choice.Goals as goal
 
 pub overflow_cast-place : goal.overflow_cast-place
@@ -28,7 +28,7 @@ returns-in_default c =
 pub returns-then-times-most_times : goal.returns-then-times-most_times
 returns-then-times-most_times c =
     let is : setting_of c.args.word.now ≡ Some c.in-Some.setting = cc in
-    twice c.args.taken.now c.args.word.now _ c.in-Some.setting is (omega arith)
+    given_too_often c.args.taken.now c.args.word.now _ c.in-Some.setting is (omega arith)
 
 pub returns-in_default-value_word : goal.returns-in_default-value_word
 returns-in_default-value_word c =

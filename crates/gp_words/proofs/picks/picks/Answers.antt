@@ -15,8 +15,8 @@ returns-in_default c =
     let none : number_in 0 (2 ^ 32 - 1) c.in-Some.piece.now ≡ None = cc in
     sym (picks_bad word (one_bad (pieces_of word) k c.in-Some.piece.now c.loop-piece.picks t c.loop-piece.invariant.0 none))
 
-pub returns-then-len-eq-MOST : goal.returns-then-len-eq-MOST
-returns-then-len-eq-MOST c =
+pub returns-then-len-eq-PICKS : goal.returns-then-len-eq-PICKS
+returns-then-len-eq-PICKS c =
     let word = c.args.word.now in
     let pieces = YieldsList-from_str_split {s = c.into_iter-piece-iterator.result} 44 word (lit< tt) (cc) (cc) (cc) in
     let t = YieldsList-turn pieces c.loop-piece.yielded _ c.loop-piece.yielded_by _ _ c.in-Some.piece c.in-Some.is c.next.ensures.steps in
