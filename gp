@@ -3,11 +3,16 @@
 #
 # A copy of the program stands in out/ beside this script, with a checksum of all that it was made from. Where the
 # checksum is no longer that of the sources, the program is proved and built anew, in a folder of its own, so that neither
-# a running gate nor an edit meanwhile comes in between. With GP_GATE=passed the program that `rt ci` left is run as it is,
-# and nothing is kept: .ci/run says so, right after the gate.
-set -u
+# a running gate nor an edit meanwhile comes in between. Crates that don't stand on each other are built side by side, as
+# many at once as processors and memory allow. Where this script is ended, it ends what it started. With GP_GATE=passed the
+# program that `rt ci` left is run as it is, and nothing is kept: .ci/run says so, right after the gate.
+set -u -o pipefail
 top=$(dirname -- "$(readlink -f -- "${BASH_SOURCE[0]}")")
 kept=$top/out
+room=
+waiting=
+failed=
+declare -A groups=() built=()
 
 tell() { printf 'gp: %s\n' "$*" >&2; }
 
@@ -16,81 +21,187 @@ stop() {
   exit 125
 }
 
+# The crates that the program stands on, and itself: a line for each, with those of them that it stands on. Those with the
+# longest chain of crates above them come first, and so each behind those that it stands on.
+crates_of() {
+  awk -F: '!/^#/ && NF > 1 { split($1, head, " "); name[++n] = head[1]; below[head[1]] = $2 }
+    END { height["gp_prog"] = highest = more = 1
+      while (more && highest <= n) { more = 0
+        for (i = 1; i <= n; i++) { one = name[i]; if (!(one in height)) continue
+          m = split(below[one], all, " ")
+          for (j = 1; j <= m; j++) if (all[j] in below && height[all[j]] < height[one] + 1) {
+            height[all[j]] = height[one] + 1; more = 1
+            if (height[all[j]] > highest) highest = height[all[j]] } } }
+      if (!("gp_prog" in below) || highest > n) exit 1
+      for (h = highest; h > 0; h--) for (i = 1; i <= n; i++) if (height[name[i]] == h) {
+        line = name[i]
+        m = split(below[name[i]], all, " ")
+        for (j = 1; j <= m; j++) if (all[j] in below) line = line " " all[j]
+        print line } }' "$1/crates.txt"
+}
+
 # The checksum of the kit and of all that the program is made from. What checks leave (out/) doesn't count.
 sum_of() {
+  local crates
+  crates=$(crates_of "$1" | awk '{ print "crates/" $1 }') || return
   (
-    cd -- "$1" || exit 1
-    rt version || exit 1
-    { printf '%s\0' crates.txt HANDLES; find crates -name out -prune -o -type f -print0; } | LC_ALL=C sort -z | xargs -0 sha256sum --
+    cd -- "$1" || exit
+    printf '%s\n' "$kit"
+    # (no name of a crate has a blank)
+    { printf '%s\0' crates.txt HANDLES && find $crates -name out -prune -o -type f -print0; } | LC_ALL=C sort -z | xargs -0 sha256sum --
   ) | sha256sum
 }
 
-# The crates that the program stands on, and itself, lowest first, as crates.txt has them.
-crates_of() {
-  awk -F: '!/^#/ && NF > 1 { split($1, head, " "); name[++n] = head[1]; deps[n] = $2 }
-    END { need["gp_prog"] = 1
-      for (i = n; i > 0; i--) if (name[i] in need) { m = split(deps[i], all, " "); for (j = 1; j <= m; j++) need[all[j]] = 1 }
-      for (i = 1; i <= n; i++) if (name[i] in need) print name[i] }' "$1/crates.txt"
+# Whether the copy that is kept was made from sources with this checksum.
+is_kept() { [ -e "$kept/gp" ] && [ "$(cat -- "$kept/gp.sum" 2>/dev/null)" = "$1" ]; }
+
+# How many crates are built at once: as many as there are processors, and as have three gigabytes of memory each.
+at_once() {
+  local processors memory
+  processors=$(nproc 2>/dev/null) || processors=1
+  memory=$(awk '/^MemAvailable:/ { print int($2 / 3145728) }' /proc/meminfo 2>/dev/null) || memory=
+  [ "${memory:-1}" -lt "$processors" ] && processors=${memory:-1}
+  [ "$processors" -gt 0 ] && printf '%s\n' "$processors" || printf '1\n'
 }
 
-# Runs a command of the kit, and shows what it said where the program doesn't come of it.
-quietly() { "$@" >>"$room/log" 2>&1 </dev/null; }
+# Starts a command under a name, in a process group of its own, which doesn't hold the lock.
+start() {
+  local name=$1
+  shift
+  set -m
+  { "$@"; printf '%s\n' "$?" >"$room/ends.$name" && mv -- "$room/ends.$name" "$room/ended.$name"; } >"$room/log.$name" 2>&1 </dev/null 9>&- &
+  groups[$name]=$!
+  set +m
+}
 
-# Proves and builds in $room/repo. Where a gate left a program here, rt ci is asked first, for a while: what it passed of
-# the very same sources it takes from the kit by checksums, and runs their tests again. Else each crate is proved once.
-build() {
-  local names count at=0 name
-  if [ -e "$top/crates/gp_prog/out/gp_prog.by-rattle" ]; then
-    tell "asking rt ci for what it proved of these sources; this is done once"
-    quietly timeout 240 rt ci && return
-  fi
-  names=$(crates_of "$room/repo")
-  count=$(wc -w <<<"$names")
-  tell "proving and building the program; this is done once, and takes some minutes"
-  for name in $names; do
-    at=$((at + 1))
-    tell "crate $at of $count: $name"
-    if [ "$name" = gp_prog ]; then
-      # (without words it reads and writes nothing, and ends with status 1)
-      (cd -- "crates/$name" && quietly rt run)
-    else
-      (cd -- "crates/$name" && quietly rt lib) || return
+# Ends what was started and still runs.
+end_all() {
+  local name
+  for name in "${!groups[@]}"; do kill -TERM -- "-${groups[$name]}" 2>/dev/null; done
+  for name in "${!groups[@]}"; do wait "${groups[$name]}" 2>/dev/null; done
+  groups=()
+}
+
+# Waits until one of those that run has ended, and takes each such one from them. Fails where one has failed.
+wait_for_one() {
+  local name
+  wait -n 2>/dev/null
+  for name in "${!groups[@]}"; do
+    [ ! -e "$room/ended.$name" ] && kill -0 "${groups[$name]}" 2>/dev/null && continue
+    wait "${groups[$name]}" 2>/dev/null
+    unset "groups[$name]"
+    if [ "$(cat -- "$room/ended.$name" 2>/dev/null)" != 0 ]; then
+      failed=$name
+      return 1
     fi
+    built[$name]=1
+  done
+}
+
+# What rt ci passed of the very same sources it takes from the kit by checksums, and runs their tests again.
+ask_gate() {
+  cd -- "$room/repo" && timeout --foreground 240 rt ci
+}
+
+# Proves a crate, and builds its library or the program.
+make() {
+  cd -- "$room/repo/crates/$1" || return
+  if [ "$1" = gp_prog ]; then
+    # (without words it reads and writes nothing, and ends with status 1)
+    rt run
+    [ -e out/gp_prog ]
+  else
+    rt lib
+  fi
+}
+
+# Whether each of these crates is built.
+are_built() {
+  local name
+  for name in "$@"; do [ -n "${built[$name]:-}" ] || return; done
+}
+
+# Proves and builds the crates in $room/repo, each once, when those are built that it stands on.
+build_all() {
+  local crates line name below most count at=0
+  local -A begun=()
+  crates=$(crates_of "$room/repo") || stop "cannot read crates.txt"
+  count=$(wc -l <<<"$crates")
+  most=$(at_once)
+  tell "proving and building the program, $most crates at once; this is done once, and takes some minutes"
+  while :; do
+    while read -r name below; do
+      [ "${#groups[@]}" -lt "$most" ] || break
+      [ -z "${begun[$name]:-}" ] && are_built $below || continue
+      begun[$name]=1
+      at=$((at + 1))
+      tell "crate $at of $count: $name"
+      start "$name" make "$name"
+    done <<<"$crates"
+    [ "${#groups[@]}" -gt 0 ] || return 0
+    wait_for_one || return
   done
 }
 
 # Gives the launcher a program of its own, made from sources with this checksum.
 take() {
-  mkdir -p -- "$kept" && cp -- "$1" "$kept/gp.$$" && chmod 755 "$kept/gp.$$" || stop "cannot write $kept"
-  rm -f -- "$kept/gp.sum"
-  mv -f -- "$kept/gp.$$" "$kept/gp" && printf '%s\n' "$2" >"$kept/gp.sum.$$" && mv -f -- "$kept/gp.sum.$$" "$kept/gp.sum"
+  cp -- "$1" "$kept/gp.$$" && chmod 755 "$kept/gp.$$" && rm -f -- "$kept/gp.sum" || stop "cannot write $kept"
+  mv -f -- "$kept/gp.$$" "$kept/gp" && printf '%s\n' "$2" >"$kept/gp.sum.$$" && mv -f -- "$kept/gp.sum.$$" "$kept/gp.sum" || stop "cannot write $kept"
 }
 
+# Proves and builds the program from a copy of the sources. Where a gate left a program here, rt ci is asked first.
 prepare() {
-  local sum=$1
+  local sum
   room=$(mktemp -d) || stop "no temporary folder"
-  trap 'rm -rf -- "$room"' EXIT
-  mkdir -- "$room/repo" "$room/repo/.git" || stop "no temporary folder"
-  (cd -- "$top" && tar cf - --exclude=out crates crates.txt HANDLES) | tar xf - -C "$room/repo" || stop "cannot copy the sources"
-  sum=$(sum_of "$room/repo") || stop "cannot read the sources"
-  (cd -- "$room/repo" && build)
-  if [ ! -e "$room/repo/crates/gp_prog/out/gp_prog" ]; then
-    tail -n 20 -- "$room/log" >&2
-    stop "the program could not be proved and built"
+  mkdir -- "$room/repo" "$room/repo/.git" || stop "cannot write $room"
+  (cd -- "$top" && tar cf - --exclude=out crates crates.txt HANDLES) | tar xf - -C "$room/repo" || stop "cannot copy the sources to $room"
+  sum=$(sum_of "$room/repo") || stop "cannot read the sources that were copied to $room"
+  if [ -e "$top/crates/gp_prog/out/gp_prog.by-rattle" ]; then
+    tell "asking rt ci for what it proved of these sources; this is done once"
+    start gate ask_gate
+    wait_for_one || end_all
   fi
+  if [ -z "${built[gate]:-}" ] && ! build_all; then
+    end_all
+    tail -n 20 -- "$room/log.$failed" >&2
+    stop "the program could not be proved and built: the kit refused the crate $failed, or stopped"
+  fi
+  [ -e "$room/repo/crates/gp_prog/out/gp_prog" ] || stop "the kit left no program"
   take "$room/repo/crates/gp_prog/out/gp_prog" "$sum"
+}
+
+# Ends what was started, and leaves nothing behind.
+leave() {
+  trap '' HUP INT TERM
+  [ -z "$waiting" ] || kill "$waiting" 2>/dev/null
+  end_all
+  [ -z "$room" ] || rm -rf -- "$room"
+  rm -f -- "$kept/gp.$$" "$kept/gp.sum.$$"
 }
 
 if [ "${GP_GATE:-}" = passed ] && [ -x "$top/crates/gp_prog/out/gp_prog" ]; then
   exec "$top/crates/gp_prog/out/gp_prog" "$@"
 fi
 command -v rt >/dev/null || stop "the Rattle kit's command rt isn't there"
+kit=$(rt version 2>&1) || stop "rt version failed: $kit"
 sum=$(sum_of "$top") || stop "cannot read the sources"
-if [ ! -e "$kept/gp" ] || [ "$(cat -- "$kept/gp.sum" 2>/dev/null)" != "$sum" ]; then
-  (
-    mkdir -p -- "$kept" && exec 9>"$kept/gp.lock" && flock 9 || stop "cannot write $kept"
-    # (another call may have made it while this one waited)
-    [ -e "$kept/gp" ] && [ "$(cat -- "$kept/gp.sum" 2>/dev/null)" = "$sum" ] || prepare "$sum"
-  ) || exit
+if ! is_kept "$sum"; then
+  mkdir -p -- "$kept" && : >>"$kept/gp.lock" && exec 9>>"$kept/gp.lock" || stop "cannot write $kept"
+  trap leave EXIT
+  trap 'exit 129' HUP
+  trap 'exit 130' INT
+  trap 'exit 143' TERM
+  if ! flock -n 9; then
+    tell "another call is building the program; waiting for it"
+    flock 9 &
+    waiting=$!
+    wait "$waiting" || stop "cannot lock $kept/gp.lock"
+    waiting=
+  fi
+  # (another call may have made it while this one waited)
+  is_kept "$sum" || prepare
+  leave
+  trap - EXIT HUP INT TERM
+  exec 9>&-
 fi
 exec "$kept/gp" "$@"
