@@ -1,36 +1,30 @@
 -- What an Op needs where it is due, and what it does by its operation.
-use Rattle.std.proofs.Common.{◌≡◌, ◌⊎◌, ℕ, ◌<◌, ◌≤◌, true, false, zero, suc, All, List, [], ◌∷◌, length, get_or, set, sum_by, Some, refl, sym, ap, ◌∙◌, subst, inl, inr, arith, if◌then◌else◌, nat_lt}
-use Rattle.std.proofs.lemmas.Bool.{cases_lt}
+use Rattle.std.proofs.Common.{◌≡◌, ℕ, ◌<◌, ◌≤◌, true, false, zero, suc, List, [], ◌∷◌, length, get_or, set, sum_by, Some, refl, sym, ap, ◌∙◌, subst, arith, if◌then◌else◌, nat_lt}
 use Rattle.std.proofs.lemmas.List.{get_or_past}
 use Rattle.std.proofs.lemmas.List.Sums.{sum_by-cons}
-use Rattle.std.proofs.lemmas.List.Elements.{All-get_or}
 use Rattle.gp_isa.specs.declared.parts.Parts.{Parts}
 use Rattle.gp_isa.specs.InLimits.{AreInLimits}
 use Rattle.gp_isa.specs.Names.{IsThere}
-use Rattle.gp_isa.proofs.NamedThere.{traces_name_what_is_there}
-use Rattle.gp_isa.specs.Trace.{Instruction, Local, Labels, Send, Recv, Lock, Unlock, Spawn, Point, trace}
-use Rattle.gp_stack.specs.Goroutine.{next_point, no_point}
+use Rattle.gp_isa.specs.Trace.{Instruction, Local, Labels, Send, Recv, Lock, Unlock, Spawn}
 use Rattle.gp_stack.specs.Peek.{operation_of}
 use Rattle.gp_stack.specs.declared.statement.Operation.TheVariants as operation
 use Rattle.gp_sync.specs.declared.effect.Effect.{Effect}
 use Rattle.gp_sync.specs.declared.effect.Effect.TheVariants.{Done, Blocks, Wakes, Fault}
 use Rattle.gp_sync.specs.Operations.{Channel, Mutex, send, recv, lock, unlock}
 use Rattle.gp_sync.specs.Places.{places_of}
-use Rattle.gp_machine.specs.declared.goroutine.Goroutine.{Goroutine}
-use Rattle.gp_machine.specs.declared.goroutine.Worker.{Worker}
-use Rattle.gp_machine.specs.declared.settings.Settings.{Settings}
-use Rattle.gp_machine.specs.Settings.{AreInRange, quantum}
-use Rattle.gp_machine.specs.State.{Code, State, code_of, resting, goroutine, channel, mutex, births, nobody, is_runnable}
-use Rattle.gp_machine.specs.Due.{next_instruction}
-use Rattle.gp_machine.specs.Effect.{waiter, acts, operates, spawns, meets_channel, meets_mutex, is_over_after}
-use Rattle.gp_machine.specs.Answer.{answer_to, op_answer, operation_answer}
-use Rattle.gp_machine.specs.declared.answer.Applied.TheVariants.{Born, Fault as FaultAnswer}
-use Rattle.gp_machine.specs.Present.{IsReached, CanCount, CanMeet, in_queue}
-use Rattle.gp_machine.proofs.Whole.{seats, IsWhole}
-use Rattle.gp_machine.proofs.Parts.{one_if_eq, Balances, blocked_by}
-use Rattle.gp_machine.proofs.WaitLists.{send_moves, recv_moves, lock_moves, unlock_moves}
-use Rattle.gp_machine.proofs.Lengths.{HasPlaces, last_has_places}
-use Rattle.gp_machine.proofs.Reached.{is_whole, holds_runnable, has_come, is_kept, clock_fits, can_wake}
+use Rattle.gp_journal.specs.declared.goroutine.Goroutine.{Goroutine}
+use Rattle.gp_journal.specs.declared.goroutine.Worker.{Worker}
+use Rattle.gp_journal.specs.declared.settings.Settings.{Settings}
+use Rattle.gp_journal.specs.Settings.{AreInRange, quantum}
+use Rattle.gp_journal.specs.State.{Code, State, code_of, resting, goroutine, channel, mutex, births, nobody, is_runnable}
+use Rattle.gp_journal.specs.Due.{next_instruction}
+use Rattle.gp_journal.specs.Effect.{waiter, acts, operates, spawns, meets_channel, meets_mutex, is_over_after}
+use Rattle.gp_journal.specs.Answer.{answer_to, op_answer, operation_answer}
+use Rattle.gp_journal.specs.declared.answer.Applied.TheVariants.{Born, Fault as FaultAnswer}
+use Rattle.gp_journal.proofs.Lemmas.{seats, IsWhole, live_within, live_status, one_if_eq, Balances, blocked_by, send_moves, recv_moves, lock_moves, unlock_moves, HasPlaces, last_has_places, is_whole, holds_runnable, absent_unless, has_come, is_kept, clock_fits, next_named}
+use Rattle.gp_machine.specs.Present.{IsReached, CanCount, CanMeet, CanWake}
+use Rattle.gp_journal.specs.Standing.{times}
+use Rattle.gp_journal.specs.declared.goroutine.Status.TheVariants.{Blocked}
 
 -- the instruction of an operation
 send_of : (i : Instruction) (c : ℕ) → operation_of i ≡ Some (operation.Send c) → i ≡ Send c
@@ -78,17 +72,6 @@ spawn_of (Lock n) f e = absurd (cc)
 spawn_of (Unlock n) f e = absurd (cc)
 spawn_of (Spawn h) f e = cc
 
--- what the next instruction names is there
-named_at : (parts : Parts) (points : List Point) (count : ℕ) → (count < length points) ⊎ (length points ≤ count) → All (λ point. IsThere parts point.instruction) points → IsThere parts (get_or points count no_point).instruction
-named_at parts points count (inl within) there = All-get_or (λ point. IsThere parts point.instruction) points count no_point within there
-named_at parts points count (inr past) there = subst (λ point. IsThere parts point.instruction) (sym (get_or_past points count no_point past)) tt
-
-pub next_named : (parts : Parts) (s : State) (g : ℕ) → AreInLimits parts → IsThere parts (next_instruction (code_of parts) s g)
-unfolding next_point
-next_named parts s g limits =
-    let points = trace parts (goroutine s g).start in
-    named_at parts points (goroutine s g).count (cases_lt (goroutine s g).count (length points)) (traces_name_what_is_there parts (goroutine s g).start limits)
-
 member_le : (f : Worker → ℕ) (ws : List Worker) (w : ℕ) → f resting ≡ 0 → f (get_or ws w resting) ≤ sum_by f ws
 member_le f [] w none = omega arith
 member_le f (v ∷ ws) zero none = omega (arith, sum_by-cons f v ws)
@@ -131,6 +114,17 @@ module _ (program : Parts) (settings : Settings) (s : State) (reached : IsReache
   pub unlock_there : (g m : ℕ) → AreInLimits program → operation_of (next_instruction (code_of program) s g) ≡ Some (operation.Unlock m) → m < length s.mutexes
   unlock_there g m limits e = rw places.of_mutexes (named g (Unlock m) limits (unlock_of _ m e))
 
+  -- one that is blocked can be woken
+  can_wake : (h : ℕ) → (goroutine s h).status ≡ Blocked → CanWake settings s h
+  can_wake h blocked =
+      let born = live_within s.goroutines h (live_status (goroutine s h) blocked refl) in
+      record {
+        is_born = born;
+        is_cell = let few = (is_kept (code_of program) settings s reached range).numbered.born_bound in omega arith;
+        blocked = blocked;
+        absent = absent_unless (code_of program) settings s reached h Blocked blocked refl;
+      }
+
   -- whom an operation wakes can be woken
   meets_ready : (g : ℕ) (cs : List Channel) (ms : List Mutex) (effect : Effect) → ((k : ℕ) → Balances effect g k (places_of s.channels s.mutexes k) (places_of cs ms k)) → CanMeet settings s effect
   meets_ready g cs ms Done balance = tt
@@ -140,7 +134,7 @@ module _ (program : Parts) (settings : Settings) (s : State) (reached : IsReache
       let mine = balance h in
       let one = one_if_eq h h refl in
       let seat : 1 ≤ seats (goroutine s h).status = let b = whole.waits h in omega arith in
-      can_wake (code_of program) settings s reached range h (blocked_by (goroutine s h).status seat)
+      can_wake h (blocked_by (goroutine s h).status seat)
 
   pub send_ready : (g c capacity : ℕ) → CanMeet settings s (send capacity (channel s c) (waiter s g)).0
   send_ready g c capacity =
@@ -163,7 +157,7 @@ module _ (program : Parts) (settings : Settings) (s : State) (reached : IsReache
       meets_ready g s.channels (set s.mutexes m outcome.1) outcome.0 (λ k. unlock_moves s.channels s.mutexes (waiter s g) k m)
 
   -- the next number stands in no queue
-  pub next_absent : in_queue (births s) s.queue ≡ 0
+  pub next_absent : times (births s) s.queue ≡ 0
   next_absent = holds_runnable (code_of program) settings s reached (births s) ∙ ap (λ (x : Goroutine). if is_runnable x.status then 1 else 0) (get_or_past s.goroutines (births s) nobody (omega arith))
 
 -- What an Op does and answers, by its operation, where the point isn't granted.

@@ -8,9 +8,9 @@ use Rattle.gp_isa.proofs.NamedThere.{trace-past}
 use Rattle.std.proofs.lemmas.Bool.{cases_lt}
 use Rattle.std.proofs.lemmas.List.{get_or_past}
 use Rattle.gp_stack.specs.Goroutine.{is_ended}
-use Rattle.gp_machine.specs.declared.goroutine.Goroutine.{Goroutine}
-use Rattle.gp_machine.specs.State.{code_of}
-use Rattle.gp_machine.specs.Effect.{is_over_after}
+use Rattle.gp_journal.specs.declared.goroutine.Goroutine.{Goroutine}
+use Rattle.gp_journal.specs.State.{code_of}
+use Rattle.gp_journal.specs.Effect.{is_over_after}
 
 -- a trace ends where it has no more points
 pub ends_after : (program : Parts) (n : ℕ) (g : Goroutine) → is_over_after (code_of program) n g ≡ nat_le (length (trace program g.start)) (g.count + n)

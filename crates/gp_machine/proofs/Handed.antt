@@ -4,15 +4,15 @@ use Rattle.std.proofs.lemmas.List.Elements.{All-nil, All-cons}
 use Rattle.gp_stack.specs.Goroutine.{next_point, is_ended, stack_of, labels_of, local_ahead}
 use Rattle.gp_stack.specs.declared.statement.Operation.{Operation}
 use Rattle.gp_stack.specs.declared.statement.Operation.TheVariants.{Send, Recv, Lock, Unlock, Spawn}
-use Rattle.gp_machine.specs.declared.answer.SharedPoint.{SharedPoint}
-use Rattle.gp_machine.specs.declared.settings.Request.TheVariants.{Clock, End}
-use Rattle.gp_machine.specs.declared.settings.Request.{Request}
-use Rattle.gp_machine.specs.Settings.{AreInRange, IsInstant}
-use Rattle.gp_machine.specs.Due.{over, asked, due, extent}
-use Rattle.gp_machine.specs.Effect.{meets, operates, after}
+use Rattle.gp_journal.specs.declared.answer.SharedPoint.{SharedPoint}
+use Rattle.gp_journal.specs.declared.settings.Request.TheVariants.{Clock, End}
+use Rattle.gp_journal.specs.declared.settings.Request.{Request}
+use Rattle.gp_journal.specs.Settings.{AreInRange, IsInstant}
+use Rattle.gp_journal.specs.Due.{over, asked, due, extent}
+use Rattle.gp_journal.specs.Effect.{meets, operates, after}
 use Rattle.gp_machine.specs.Replayed.{ArePointsOf}
-use Rattle.gp_machine.specs.Worked.{plain, smallest, smallest_settings, smallest_journal, wake, wake_settings, wake_journal, contended, contended_journal, deadlocked, deadlock_journal, one_cell, one_cell_journal, faulty, fault_journal, six, ticking, tick_journal, pair, pair_settings, refused_journal, profiled_journal, two_workers, side_by_side, long, full_settings, full_journal}
-use Rattle.gp_machine.proofs.Journals.{smallest_traces, smallest_same, wake_traces, wake_same, contended_traces, contended_same, deadlock_traces, deadlock_same, faulty_traces, faulty_same, six_traces, six_same, pair_traces, pair_same, long_traces, long_same}
+use Rattle.gp_journal.specs.Worked.{plain, smallest, smallest_settings, smallest_journal, wake, wake_settings, wake_journal, contended, contended_journal, deadlocked, deadlock_journal, one_cell, one_cell_journal, faulty, fault_journal, six, ticking, tick_journal, pair, pair_settings, refused_journal, profiled_journal, two_workers, side_by_side, long, full_settings, full_journal}
+use Rattle.gp_journal.proofs.Journals.{smallest_traces, smallest_same, wake_traces, wake_same, contended_traces, contended_same, deadlock_traces, deadlock_same, faulty_traces, faulty_same, six_traces, six_same, pair_traces, pair_same, long_traces, long_same}
 use Rattle.gp_machine.proofs.Replays.{handed, usual_range, with_limits}
 
 -- a shared point of a goroutine with the empty label set

@@ -3,9 +3,9 @@ use Rattle.std.proofs.Common.{◌≡◌, ◌<◌, ◌≤◌, ◌+◌, ℕ, Bool,
 use Rattle.std.specs.List.{list_any}
 use Rattle.std.proofs.lemmas.Bool.{lt-ltb, le-ltb}
 use Rattle.std.proofs.lemmas.List.Sums.{sum_by-cons}
-use Rattle.gp_machine.specs.declared.settings.Request.{Request}
-use Rattle.gp_machine.specs.State.{State, is_runnable, is_running}
-use Rattle.gp_machine.specs.Due.{some_ready}
+use Rattle.gp_journal.specs.declared.settings.Request.{Request}
+use Rattle.gp_journal.specs.State.{State, is_runnable, is_running}
+use Rattle.gp_journal.specs.Due.{some_ready}
 
 one_more : (b any : Bool) (n : ℕ) → any ≡ ltb 0 n → (b || any) ≡ ltb 0 (cond b 1 0 + n)
 one_more true any n e = sym (lt-ltb 0 (1 + n) (omega arith))

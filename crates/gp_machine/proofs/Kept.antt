@@ -2,22 +2,17 @@
 use Rattle.std.proofs.Common.{◌≡◌, ℕ, ◌+◌, ◌^◌, ◌<◌, ◌≤◌, ◌==◌, ◌||◌, Bool, true, false, cond, List, [], ◌∷◌, ◌++◌, length, get_or, set, Some, refl, sym, ap, ◌∙◌, arith, length-append, length-set}
 use Rattle.std.proofs.lemmas.Bool.{cases_lt, ne_eqb, eqb-true}
 use Rattle.std.proofs.lemmas.List.Sums.{sum_by_push, count_by-le-length}
-use Rattle.gp_machine.specs.declared.entry.Entry.{Entry}
-use Rattle.gp_machine.specs.declared.entry.Entry.TheVariants.{Start, Run, Op, Tick, Park, Open, Refuse, Record, Close}
-use Rattle.gp_machine.specs.declared.settings.Settings.{Settings}
-use Rattle.gp_machine.specs.State.{Code, State, worker, is_idle, first}
-use Rattle.gp_machine.specs.May.{May}
-use Rattle.gp_machine.specs.Effect.{after}
-use Rattle.gp_machine.specs.Run.{AreLegal, IsLegal, after_all, last}
-use Rattle.gp_machine.specs.NumberLaws.{most_entries}
+use Rattle.gp_journal.specs.declared.entry.Entry.{Entry}
+use Rattle.gp_journal.specs.declared.entry.Entry.TheVariants.{Start, Run, Op, Tick, Park, Open, Refuse, Record, Close}
+use Rattle.gp_journal.specs.declared.settings.Settings.{Settings}
+use Rattle.gp_journal.specs.State.{Code, State, worker, is_idle, first}
+use Rattle.gp_journal.specs.May.{May}
+use Rattle.gp_journal.specs.Effect.{after}
+use Rattle.gp_journal.specs.Run.{AreLegal, IsLegal, after_all, last}
+use Rattle.gp_journal.specs.NumberLaws.{most_entries}
 use Rattle.gp_machine.specs.Made.{actor_of, made_by, Keeps}
 use Rattle.gp_machine.specs.Present.{IsReached}
-use Rattle.gp_machine.proofs.Places.{replaced_within}
-use Rattle.gp_machine.proofs.Parts.{one_if, one_if_eq}
-use Rattle.gp_machine.proofs.Law.{after_all-append}
-use Rattle.gp_machine.proofs.Totals.{kept_at, entries_are_counted, entries_are_bounded}
-use Rattle.gp_machine.proofs.OnWorkers.{worker_at}
-use Rattle.gp_machine.proofs.Reached.{idle_within}
+use Rattle.gp_journal.proofs.Lemmas.{replaced_within, one_if, one_if_eq, after_all-append, kept_at, entries_are_counted, entries_are_bounded, worker_at, idle_within}
 
 -- one legal entry more
 appended : (code : Code) (settings : Settings) (s : State) (journal : List Entry) (entry : Entry) → AreLegal code settings s journal → May code settings (after_all code settings s journal) entry → AreLegal code settings s (journal ++ entry ∷ [])

@@ -4,10 +4,10 @@ use Rattle.std.specs.List.{position_or_len}
 use Rattle.std.proofs.lemmas.Bool.{cases_eq, cases_lt, lt-ltb, le-ltb}
 use Rattle.std.proofs.lemmas.List.{get_or_past, get_or_push, get_or_append_left, length_push}
 use Rattle.std.proofs.lemmas.List.Sums.{sum_by-set, sum_by_push, position_or_len_is, fails_before_first, passes_at_first}
-use Rattle.gp_machine.specs.declared.goroutine.Goroutine.{Goroutine}
-use Rattle.gp_machine.specs.State.{nobody}
+use Rattle.gp_journal.specs.declared.goroutine.Goroutine.{Goroutine}
+use Rattle.gp_journal.specs.State.{nobody}
 use Rattle.gp_machine.specs.Crowd.{one_if}
-use Rattle.gp_machine.proofs.Places.{replaced_within}
+use Rattle.gp_journal.proofs.Lemmas.{replaced_within}
 
 pub count_set : {X : Type 0} (p : X → Bool) (d : X) (xs : List X) (i : ℕ) (y : X) → i < length xs → count_by p (set xs i y) + one_if (p (get_or xs i d)) ≡ count_by p xs + one_if (p y)
 count_set p d xs i y within = sum_by-set (λ x. one_if (p x)) xs i y d within

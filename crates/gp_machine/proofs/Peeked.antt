@@ -11,13 +11,13 @@ use Rattle.gp_stack.specs.declared.peek.Then.{Then}
 use Rattle.gp_stack.specs.declared.peek.Then.TheVariants.{Shared}
 use Rattle.gp_stack.specs.declared.statement.Operation.{Operation}
 use Rattle.gp_stack.specs.declared.peek.Peek.{Peek}
-use Rattle.gp_machine.specs.declared.entry.Entry.TheVariants.{Run, Op, Tick, Park}
-use Rattle.gp_machine.specs.declared.settings.Settings.{Settings}
-use Rattle.gp_machine.specs.Settings.{quantum, period}
-use Rattle.gp_machine.specs.State.{Code, State, goroutine, worker, trace_of}
-use Rattle.gp_machine.specs.Due.{asked, over, due, extent, next_instruction}
+use Rattle.gp_journal.specs.declared.entry.Entry.TheVariants.{Run, Op, Tick, Park}
+use Rattle.gp_journal.specs.declared.settings.Settings.{Settings}
+use Rattle.gp_journal.specs.Settings.{quantum, period}
+use Rattle.gp_journal.specs.State.{Code, State, goroutine, worker, trace_of}
+use Rattle.gp_journal.specs.Due.{asked, over, due, extent, next_instruction}
 use Rattle.gp_machine.specs.Present.{IsPeekAt}
-use Rattle.gp_machine.proofs.Going.{GoesOn}
+use Rattle.gp_journal.proofs.Lemmas.{GoesOn}
 
 -- so many local points are ahead, up to the quantum, and then this comes
 pub record IsLook (points : List Point) (count local : ℕ) (then : Then) : Type 0 where

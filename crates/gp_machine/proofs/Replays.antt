@@ -6,21 +6,21 @@ use Rattle.gp_isa.specs.Trace.{Point, trace}
 use Rattle.gp_stack.specs.Peek.{operation_of}
 use Rattle.gp_stack.specs.declared.statement.Operation.{Operation}
 use Rattle.gp_stack.specs.declared.statement.Operation.TheVariants.{Send, Recv, Lock, Unlock, Spawn}
-use Rattle.gp_machine.specs.declared.answer.SharedPoint.{SharedPoint}
-use Rattle.gp_machine.specs.declared.entry.Entry.{Entry}
-use Rattle.gp_machine.specs.declared.settings.Settings.{Settings}
-use Rattle.gp_machine.specs.declared.entry.Entry.TheVariants.{Start, Run, Op, Tick, Park, Open, Refuse, Record, Close}
-use Rattle.gp_machine.specs.declared.settings.Request.{Request}
-use Rattle.gp_machine.specs.Settings.{AreInRange, IsInstant}
-use Rattle.gp_machine.specs.State.{Code, State, goroutine, first}
-use Rattle.gp_machine.specs.Due.{next_instruction}
-use Rattle.gp_machine.specs.May.{May}
-use Rattle.gp_machine.specs.Effect.{labels_at, after}
-use Rattle.gp_machine.specs.Run.{AreLegal, after_all}
+use Rattle.gp_journal.specs.declared.answer.SharedPoint.{SharedPoint}
+use Rattle.gp_journal.specs.declared.entry.Entry.{Entry}
+use Rattle.gp_journal.specs.declared.settings.Settings.{Settings}
+use Rattle.gp_journal.specs.declared.entry.Entry.TheVariants.{Start, Run, Op, Tick, Park, Open, Refuse, Record, Close}
+use Rattle.gp_journal.specs.declared.settings.Request.{Request}
+use Rattle.gp_journal.specs.Settings.{AreInRange, IsInstant}
+use Rattle.gp_journal.specs.State.{Code, State, goroutine, first}
+use Rattle.gp_journal.specs.Due.{next_instruction}
+use Rattle.gp_journal.specs.May.{May}
+use Rattle.gp_journal.specs.Effect.{labels_at, after}
+use Rattle.gp_journal.specs.Run.{AreLegal, after_all}
 use Rattle.gp_machine.specs.Present.{IsGiven}
 use Rattle.gp_machine.specs.Replayed.{AreGiven, ArePointsOf}
-use Rattle.gp_machine.specs.Worked.{plain}
-use Rattle.gp_machine.proofs.Journals.{with_traces, code_is}
+use Rattle.gp_journal.specs.Worked.{plain}
+use Rattle.gp_journal.proofs.Journals.{with_traces, code_is}
 
 -- entry k is legal after the entries before it
 pub may_at : (code : Code) (settings : Settings) (s : State) (entries : List Entry) (k : ℕ) (d : Entry) → k < length entries → AreLegal code settings s entries → May code settings (after_all code settings s (take k entries)) (get_or entries k d)

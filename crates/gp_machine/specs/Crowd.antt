@@ -1,17 +1,14 @@
 -- The goroutines that were born, with what is counted of them, and marks of who has still to be recorded.
-use Rattle.std.specs.Prelude.{◌≡◌, ◌≤◌, ℕ, Bool, false, not, ◌&&◌, List, length, get_or, count_by, position, Option, if◌then◌else◌}
-use Rattle.gp_machine.specs.declared.goroutine.Goroutine.{Goroutine}
-use Rattle.gp_machine.specs.State.{nobody, is_runnable, is_running, is_live, is_behind}
+use Rattle.std.specs.Prelude.{◌≡◌, ◌≤◌, ℕ, Bool, false, not, ◌&&◌, List, length, get_or, count_by, if◌then◌else◌}
+use Rattle.gp_journal.specs.declared.goroutine.Goroutine.{Goroutine}
+pub use Rattle.gp_journal.specs.Standing.{first_behind}
+use Rattle.gp_journal.specs.State.{nobody, is_runnable, is_running, is_live, is_behind}
 
 -- The goroutines by number, at most so many as there are cells, and the epoch of the active profile.
 pub record Crowd : Type 0 where
   pub cells : ℕ
   pub all : List Goroutine
   pub active : ℕ
-
--- the number of the first goroutine that has still to be recorded in the profile of an epoch
-abbrev pub first_behind : ℕ → List Goroutine → Option ℕ
-first_behind active goroutines = position (is_behind active) goroutines
 
 -- whether a goroutine is live and has nothing to be recorded in the profile of an epoch
 abbrev pub is_settled : ℕ → Goroutine → Bool

@@ -1,5 +1,5 @@
 -- What the machine keeps in place: the present state, and the numbers of its run that stay.
-use Rattle.std.specs.Prelude.{◌≡◌, ◌+◌, ◌<◌, ◌^◌, ◌==◌, ℕ, min, List, length, get_or, map, count_by, Option, Some}
+use Rattle.std.specs.Prelude.{◌≡◌, ◌+◌, ◌<◌, ◌^◌, ℕ, min, List, length, get_or, map, Option, Some}
 use Rattle.gp_isa.specs.declared.parts.Parts.{Parts}
 use Rattle.gp_isa.specs.declared.parts.ChannelDecl.{ChannelDecl}
 use Rattle.gp_isa.specs.InLimits.{AreInLimits}
@@ -9,23 +9,18 @@ use Rattle.gp_stack.specs.Peek.{operation_of, then_at}
 use Rattle.gp_stack.specs.declared.peek.Peek.{Peek}
 use Rattle.gp_sync.specs.declared.effect.Effect.{Effect}
 use Rattle.gp_sync.specs.declared.effect.Effect.TheVariants.{Wakes}
-use Rattle.gp_machine.specs.declared.answer.SharedPoint.{SharedPoint}
-use Rattle.gp_machine.specs.declared.entry.Entry.{Entry}
-use Rattle.gp_machine.specs.declared.entry.Entry.TheVariants.{Op}
-use Rattle.gp_machine.specs.declared.goroutine.Status.TheVariants.{Running, Blocked}
+use Rattle.gp_journal.specs.declared.answer.SharedPoint.{SharedPoint}
+use Rattle.gp_journal.specs.declared.entry.Entry.{Entry}
+use Rattle.gp_journal.specs.declared.entry.Entry.TheVariants.{Op}
+use Rattle.gp_journal.specs.declared.goroutine.Status.TheVariants.{Blocked}
 use Rattle.gp_machine.specs.declared.present.Plan.{Plan}
-use Rattle.gp_machine.specs.declared.settings.Settings.{Settings}
-use Rattle.gp_machine.specs.Settings.{AreInRange, period, quantum}
-use Rattle.gp_machine.specs.State.{Code, State, goroutine, worker, births, trace_of}
-use Rattle.gp_machine.specs.Due.{next_instruction}
-use Rattle.gp_machine.specs.Effect.{labels_at}
-use Rattle.gp_machine.specs.Run.{IsLegal, last}
-
--- The state of some legal journal.
-pub record IsReached (code : Code) (settings : Settings) (state : State) : Type 0 where
-  pub journal : List Entry
-  pub legal : IsLegal code settings journal
-  pub its_last : state ≡ last code settings journal
+use Rattle.gp_journal.specs.declared.settings.Settings.{Settings}
+use Rattle.gp_journal.specs.Settings.{AreInRange, period, quantum}
+use Rattle.gp_journal.specs.State.{Code, State, goroutine, worker, births, trace_of}
+use Rattle.gp_journal.specs.Due.{next_instruction}
+use Rattle.gp_journal.specs.Effect.{labels_at}
+pub use Rattle.gp_journal.specs.Reached.{IsReached, Runs}
+use Rattle.gp_journal.specs.Standing.{times}
 
 -- The numbers that stay are those of a program and its options: the length of each trace, the period of the ticks,
 -- the number of entries at which the journal is full, and the requests.
@@ -48,17 +43,6 @@ pub record HasCells (settings : Settings) (goroutines queue waits : ℕ) : Type 
   pub of_queue : queue ≡ settings.cells
   pub of_waits : waits ≡ settings.cells
 
--- how many places a goroutine has in a queue
-abbrev pub in_queue : ℕ → List ℕ → ℕ
-in_queue g queue = count_by (λ other. other == g) queue
-
--- worker w runs g
-pub record Runs (settings : Settings) (state : State) (w g : ℕ) : Type 0 where
-  pub is_worker : w < length state.workers
-  pub is_born : g < births state
-  pub is_cell : g < settings.cells
-  pub status : (goroutine state g).status ≡ Running w
-
 -- n instructions more of g on w can be counted
 pub record CanCount (state : State) (w g n : ℕ) : Type 0 where
   pub clock : state.clock + n < 2 ^ 64
@@ -71,7 +55,7 @@ pub record CanWake (settings : Settings) (state : State) (g : ℕ) : Type 0 wher
   pub is_born : g < births state
   pub is_cell : g < settings.cells
   pub blocked : (goroutine state g).status ≡ Blocked
-  pub absent : in_queue g state.queue ≡ 0
+  pub absent : times g state.queue ≡ 0
 
 -- whom an effect wakes can be woken
 abbrev pub CanMeet : Settings → State → Effect → Type 0

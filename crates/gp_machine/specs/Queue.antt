@@ -1,19 +1,11 @@
 -- The queue of runnable goroutines, and the links that keep it.
-use Rattle.std.specs.Prelude.{◌≡◌, ℕ, ◌+◌, ◌≤◌, zero, suc, ◌==◌, Option, Some, None, List, [], ◌∷◌, length, get_or, count_by}
+use Rattle.std.specs.Prelude.{◌≡◌, ℕ, ◌+◌, ◌≤◌, zero, suc, List, [], ◌∷◌, length, get_or}
+pub use Rattle.gp_journal.specs.Standing.{head_of, times}
 
 -- Goroutines in the order in which they came, of those whose numbers are below `cells`.
 pub record Line : Type 0 where
   pub cells : ℕ
   pub items : List ℕ
-
--- who stands at the head, if anyone does
-abbrev pub head_of : List ℕ → Option ℕ
-head_of [] = None
-head_of (g ∷ rest) = Some g
-
--- how often a goroutine stands in a list
-abbrev pub times : ℕ → List ℕ → ℕ
-times g items = count_by (λ other. other == g) items
 
 -- so many places, from one on
 abbrev pub walked : List ℕ → ℕ → ℕ → List ℕ

@@ -1,11 +1,11 @@
 -- What it takes to make the entries of a journal again.
 use Rattle.std.specs.Prelude.{List, [], ◌∷◌, Option}
 use Rattle.gp_isa.specs.declared.parts.Parts.{Parts}
-use Rattle.gp_machine.specs.declared.answer.SharedPoint.{SharedPoint}
-use Rattle.gp_machine.specs.declared.entry.Entry.{Entry}
-use Rattle.gp_machine.specs.declared.settings.Settings.{Settings}
-use Rattle.gp_machine.specs.State.{Code, State, code_of, first}
-use Rattle.gp_machine.specs.Effect.{after}
+use Rattle.gp_journal.specs.declared.answer.SharedPoint.{SharedPoint}
+use Rattle.gp_journal.specs.declared.entry.Entry.{Entry}
+use Rattle.gp_journal.specs.declared.settings.Settings.{Settings}
+use Rattle.gp_journal.specs.State.{Code, State, code_of, first}
+use Rattle.gp_journal.specs.Effect.{after}
 use Rattle.gp_machine.specs.Present.{IsGiven}
 
 -- Beside entries that are made one after another, from a state on, stands what is handed over with each.

@@ -1,16 +1,14 @@
 ghost use Rattle.std.specs.Prelude.{◌≡◌, ◌≤◌, ℕ, [], ◌∷◌, length, get_or, IfOk};
 ghost use Rattle.gp_isa.specs.Trace.{trace};
-ghost use Rattle.gp_machine.specs.Settings.{AreInRange};
-ghost use Rattle.gp_machine.specs.State.{code_of, first, main_goroutine};
+ghost use Rattle.gp_journal.specs.Settings.{AreInRange};
+ghost use Rattle.gp_journal.specs.State.{code_of, first, main_goroutine};
 ghost use Rattle.gp_machine.specs.Present.{FitsPlan};
 
-use crate::goroutine::{Goroutine, Status};
 use crate::goroutines::Goroutines;
 use crate::present::{Plan, Present, RESTING};
 use crate::queue::Queue;
-use crate::run::Run;
-use crate::settings::Settings;
 use gp_isa::{Memory, Program};
+use gp_journal::{Goroutine, Run, Settings, Status};
 use gp_sync::WaitLists;
 use std::alloc::Global;
 use std::marker::PhantomData;

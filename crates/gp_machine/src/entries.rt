@@ -1,16 +1,14 @@
 ghost use Rattle.std.specs.Prelude.{◌≡◌, ◌<◌, ◌+◌, ◌^◌};
-ghost use Rattle.gp_machine.specs.Settings.{AreInRange};
-ghost use Rattle.gp_machine.specs.State.{code_of, goroutine};
-ghost use Rattle.gp_machine.specs.Effect.{effect, after, is_over_after};
-ghost use Rattle.gp_machine.specs.May.{May, MayStart, IsDue, MayOpen, MayRefuse, MayRecord, MayClose};
-ghost use Rattle.gp_machine.specs.Answer.{applied};
+ghost use Rattle.gp_journal.specs.Settings.{AreInRange};
+ghost use Rattle.gp_journal.specs.State.{code_of, goroutine};
+ghost use Rattle.gp_journal.specs.Effect.{effect, after, is_over_after};
+ghost use Rattle.gp_journal.specs.May.{May, MayStart, IsDue, MayOpen, MayRefuse, MayRecord, MayClose};
+ghost use Rattle.gp_journal.specs.Answer.{applied};
 ghost use Rattle.gp_machine.specs.Present.{IsReached, IsGiven};
-ghost use Rattle.gp_machine.specs.declared.entry.Entry.TheVariants as entry;
+ghost use Rattle.gp_journal.specs.declared.entry.Entry.TheVariants as entry;
 
-use crate::answer::{Applied, SharedPoint};
-use crate::entry::Entry;
 use crate::present::Present;
-use crate::run::Run;
+use gp_journal::{Applied, Entry, Run, SharedPoint};
 
 impl<R: Run> Present<R> {
     // The options of the run lie in their ranges.

@@ -1,10 +1,10 @@
 ghost use Rattle.std.specs.Prelude.{◌≡◌, ◌<◌, ◌≤◌, ◌++◌, ◌∷◌, ◌+◌, ◌^◌, [], ℕ, true, IsTrue, length, get_or, set, count_by, IfOk, nat_lt};
-ghost use Rattle.gp_machine.specs.State.{nobody, is_runnable, is_running, is_live, is_behind};
+ghost use Rattle.gp_journal.specs.State.{nobody, is_runnable, is_running, is_live, is_behind};
 ghost use Rattle.gp_machine.specs.Crowd.{first_behind, is_settled, one_if};
 
-use crate::goroutine::{Goroutine, Status};
 use crate::id_set::IdSet;
 use gp_isa::Memory;
+use gp_journal::{Goroutine, Status};
 use std::alloc::Global;
 use std::marker::Model;
 use std::mem;

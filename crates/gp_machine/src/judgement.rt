@@ -1,19 +1,15 @@
 ghost use Rattle.std.specs.Prelude.{◌≡◌, ◌≤◌, ◌<◌, ◌-◌, ◌%◌, ◌^◌, min, Some, length};
 ghost use Rattle.std.specs.Bool.{OnTrue, OnFalse};
-ghost use Rattle.gp_machine.specs.Settings.{quantum, period};
-ghost use Rattle.gp_machine.specs.State.{code_of, worker, mutex};
-ghost use Rattle.gp_machine.specs.Due.{asked, over, ended, due, IsComplete, calls_for, some_ready, next_instruction};
+ghost use Rattle.gp_journal.specs.Settings.{quantum, period};
+ghost use Rattle.gp_journal.specs.State.{code_of, worker, mutex};
+ghost use Rattle.gp_journal.specs.Due.{asked, over, ended, due, IsComplete, calls_for, some_ready, next_instruction};
 ghost use Rattle.gp_stack.specs.Peek.{operation_of};
-ghost use Rattle.gp_machine.specs.Answer.{foreseen, contention};
+ghost use Rattle.gp_journal.specs.Answer.{foreseen, contention};
 ghost use Rattle.gp_machine.specs.Present.{IsReached, IsPeekAt};
 
-use crate::answer::Foreseen;
-use crate::entry::{Ended, Entry};
-use crate::goroutine::Status;
 use crate::operations::{INSTRUCTION_TIME, block_delay};
 use crate::present::Present;
-use crate::run::Run;
-use crate::settings::Request;
+use gp_journal::{Ended, Entry, Foreseen, Request, Run, Status};
 use gp_stack::{Operation, Peek, Then};
 
 /// The quantum: how many instructions a goroutine may run before it is put back.
@@ -29,7 +25,7 @@ impl<R: Run> Present<R> {
     }
 
     /// Whether the run is over.
-    #[tactic(auto, unfolding(crate::specs::Due::over))]
+    #[tactic(auto, unfolding(gp_journal::specs::Due::over))]
     pub fn over(&self) -> bool
         ensures { result ≡ over R.settings self.now }
     {
@@ -49,7 +45,7 @@ impl<R: Run> Present<R> {
     }
 
     /// Whether a profile is asked for.
-    #[tactic(auto, unfolding(crate::specs::Due::asked))]
+    #[tactic(auto, unfolding(gp_journal::specs::Due::asked))]
     pub fn asked(&self) -> bool
         ensures { result ≡ asked R.settings self.now }
     {

@@ -1,26 +1,23 @@
 ghost use Rattle.std.specs.Prelude.{◌≡◌, ◌<◌, ◌≤◌, ◌++◌, ◌∷◌, [], ℕ, true, Some, IfOk, IsSome};
 ghost use Rattle.std.specs.Bool.{OnTrue, OnFalse};
 ghost use Rattle.gp_stack.specs.Peek.{operation_of};
-ghost use Rattle.gp_machine.specs.Settings.{AreInRange};
-ghost use Rattle.gp_machine.specs.State.{code_of, goroutine, worker, is_live, live, running, births};
-ghost use Rattle.gp_machine.specs.Due as definition;
-ghost use Rattle.gp_machine.specs.Due.{IsComplete, next_instruction};
-ghost use Rattle.gp_machine.specs.May.{May, IsDue};
-ghost use Rattle.gp_machine.specs.Run.{IsLegal, last};
-ghost use Rattle.gp_machine.specs.Answer.{applied, foreseen};
+ghost use Rattle.gp_journal.specs.Settings.{AreInRange};
+ghost use Rattle.gp_journal.specs.State.{code_of, goroutine, worker, is_live, live, running, births};
+ghost use Rattle.gp_journal.specs.Due as definition;
+ghost use Rattle.gp_journal.specs.Due.{IsComplete, next_instruction};
+ghost use Rattle.gp_journal.specs.May.{May, IsDue};
+ghost use Rattle.gp_journal.specs.Run.{IsLegal, last};
+ghost use Rattle.gp_journal.specs.Answer.{applied, foreseen};
 ghost use Rattle.gp_machine.specs.Crowd.{first_behind};
 ghost use Rattle.gp_machine.specs.Queue.{head_of};
 ghost use Rattle.gp_machine.specs.Present.{IsGiven, IsPeekAt};
-ghost use Rattle.gp_machine.specs.declared.entry.Entry.TheVariants as entry;
+ghost use Rattle.gp_journal.specs.declared.entry.Entry.TheVariants as entry;
 ghost use Rattle.gp_machine.specs.Made.{actor_of, made_by};
-ghost use Rattle.gp_machine.specs.NumberLaws.{most_entries};
+ghost use Rattle.gp_journal.specs.NumberLaws.{most_entries};
 
-use crate::answer::{Applied, Foreseen, SharedPoint};
-use crate::entry::{Ended, Entry, Journal};
 use crate::present::Present;
-use crate::run::Run;
-use crate::settings::Settings;
 use gp_isa::{Memory, Program, Sequence};
+use gp_journal::{Applied, Ended, Entry, Foreseen, Journal, Run, Settings, SharedPoint};
 use gp_stack::{Operation, Peek};
 use std::alloc::Global;
 use std::marker::Model;
@@ -41,8 +38,8 @@ pub struct Machine<R: Run> {
 impl<R: Run> Model for Machine<R> {
     ghost use Rattle.std.specs.Prelude.{List};
     ghost use Rattle.std.specs.Vec.{vec_capacity};
-    ghost use Rattle.gp_machine.specs.declared.entry.Entry.{Entry};
-    ghost use Rattle.gp_machine.specs.State.{code_of};
+    ghost use Rattle.gp_journal.specs.declared.entry.Entry.{Entry};
+    ghost use Rattle.gp_journal.specs.State.{code_of};
     ghost use Rattle.gp_machine.specs.Made.{Keeps};
 
     ghost Value = { List Entry };

@@ -1,19 +1,18 @@
 ghost use Rattle.std.specs.Prelude.{◌≡◌, ◌<◌, ◌^◌, ℕ, true, false, Some, None, length, if◌then◌else◌, nat_lt};
 ghost use Rattle.gp_sync.specs.Operations.{send, recv, lock, unlock};
 ghost use Rattle.gp_sync.specs.Places.{places_of};
-ghost use Rattle.gp_machine.specs.State.{code_of, goroutine, channel, mutex, births};
-ghost use Rattle.gp_machine.specs.Effect.{is_over_after, meets, meets_channel, meets_mutex, waiter, spawns, resumes, acts, labels_at};
-ghost use Rattle.gp_machine.specs.May.{IsDue};
-ghost use Rattle.gp_machine.specs.Answer.{answer_to, op_answer, block_delay};
-ghost use Rattle.gp_machine.specs.Present.{in_queue, Runs, CanCount, CanMeet, IsReached, IsPointOf};
-ghost use Rattle.gp_machine.specs.declared.answer.Applied.TheVariants as answer;
-ghost use Rattle.gp_machine.specs.declared.answer.Applied.TheVariants.{Born, Fault as FaultAnswer};
-ghost use Rattle.gp_machine.specs.declared.entry.Entry.TheVariants.{Op};
+ghost use Rattle.gp_journal.specs.State.{code_of, goroutine, channel, mutex, births};
+ghost use Rattle.gp_journal.specs.Effect.{is_over_after, meets, meets_channel, meets_mutex, waiter, spawns, resumes, acts, labels_at};
+ghost use Rattle.gp_journal.specs.May.{IsDue};
+ghost use Rattle.gp_journal.specs.Answer.{answer_to, op_answer, block_delay};
+ghost use Rattle.gp_journal.specs.Standing.{times};
+ghost use Rattle.gp_machine.specs.Present.{Runs, CanCount, CanMeet, IsReached, IsPointOf};
+ghost use Rattle.gp_journal.specs.declared.answer.Applied.TheVariants as answer;
+ghost use Rattle.gp_journal.specs.declared.answer.Applied.TheVariants.{Born, Fault as FaultAnswer};
+ghost use Rattle.gp_journal.specs.declared.entry.Entry.TheVariants.{Op};
 
-use crate::answer::{Applied, SharedPoint, Wait, Woken};
-use crate::goroutine::Goroutine;
 use crate::present::Present;
-use crate::run::Run;
+use gp_journal::{Applied, Goroutine, Run, SharedPoint, Wait, Woken};
 use gp_stack::Operation;
 use gp_sync::Effect;
 
@@ -30,7 +29,7 @@ pub(crate) fn block_delay(g: Goroutine) -> u64
 
 impl<R: Run> Present<R> {
     // What the effect of an operation does. `contended` tells that it was an unlock.
-    #[tactic(auto, unfolding(crate::specs::Effect::meets))]
+    #[tactic(auto, unfolding(gp_journal::specs::Effect::meets))]
     fn meets(&mut self, w: u32, g: u32, effect: Effect, contended: bool) -> Applied
         requires runs { Runs R.settings self.old w g }
         requires room { CanCount self.old w g 1 }
@@ -123,7 +122,7 @@ impl<R: Run> Present<R> {
     fn spawns(&mut self, w: u32, g: u32, function: u32, labels: u8) -> Applied
         requires runs { Runs R.settings self.old w g }
         requires room { CanCount self.old w g 1 }
-        requires absent { in_queue (births self.old) self.old.queue ≡ 0 }
+        requires absent { times (births self.old) self.old.queue ≡ 0 }
         requires labels { labels ≡ labels_at (code_of R.program) (goroutine self.old g) }
         ensures state { self.new ≡ spawns (code_of R.program) R.settings w g function self.old }
         ensures answer { result ≡ (if nat_lt (births self.old) R.settings.cells then Born (births self.old) (is_over_after (code_of R.program) 1 (goroutine self.old g)) else FaultAnswer 2) }

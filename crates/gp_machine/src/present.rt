@@ -1,20 +1,18 @@
 ghost use Rattle.std.specs.Prelude.{◌≡◌, ◌<◌, ◌≤◌, ◌+◌, ◌^◌, ℕ, true, [], ◌∷◌, ◌++◌, Some, length, count_by, if◌then◌else◌, nat_lt};
 ghost use Rattle.gp_isa.specs.InLimits.{AreInLimits};
 ghost use Rattle.gp_isa.specs.Trace.{trace};
-ghost use Rattle.gp_machine.specs.Settings.{AreInRange, period};
-ghost use Rattle.gp_machine.specs.State.{code_of, State, goroutine, worker, births, live, running, is_live, is_behind};
-ghost use Rattle.gp_machine.specs.Effect as effect;
-ghost use Rattle.gp_machine.specs.Effect.{is_over_after, with_goroutine, with_worker};
+ghost use Rattle.gp_journal.specs.Settings.{AreInRange, period};
+ghost use Rattle.gp_journal.specs.State.{code_of, State, goroutine, worker, births, live, running, is_live, is_behind};
+ghost use Rattle.gp_journal.specs.Effect as effect;
+ghost use Rattle.gp_journal.specs.Effect.{is_over_after, with_goroutine, with_worker};
 ghost use Rattle.gp_machine.specs.Crowd.{first_behind};
-ghost use Rattle.gp_machine.specs.Queue.{head_of};
-ghost use Rattle.gp_machine.specs.Present.{in_queue, Runs, CanCount, CanWake};
-ghost use Rattle.gp_machine.specs.declared.goroutine.Status.TheVariants.{Runnable, Running, Dead as DeadStatus};
+ghost use Rattle.gp_journal.specs.Standing.{head_of, times};
+ghost use Rattle.gp_machine.specs.Present.{Runs, CanCount, CanWake};
+ghost use Rattle.gp_journal.specs.declared.goroutine.Status.TheVariants.{Runnable, Running, Dead as DeadStatus};
 
-use crate::goroutine::{Goroutine, Status, Worker};
 use crate::goroutines::Goroutines;
 use crate::queue::Queue;
-use crate::run::Run;
-use crate::settings::Request;
+use gp_journal::{Goroutine, Request, Run, Status, Worker};
 use gp_sync::WaitLists;
 use std::marker::{Model, PhantomData};
 
@@ -46,7 +44,7 @@ pub struct Present<R: Run> {
 
 impl<R: Run> Model for Present<R> {
     ghost use Rattle.std.specs.Prelude.{drop};
-    ghost use Rattle.gp_machine.specs.State.{State};
+    ghost use Rattle.gp_journal.specs.State.{State};
     ghost use Rattle.gp_machine.specs.Present.{FitsRun, HasCells};
 
     ghost Value = { State };
@@ -195,7 +193,7 @@ impl<R: Run> Present<R> {
 
     fn join_queue(&mut self, g: u32)
         requires within { g < R.settings.cells }
-        requires absent { in_queue g self.old.queue ≡ 0 }
+        requires absent { times g self.old.queue ≡ 0 }
         ensures { self.new ≡ effect.queued g self.old }
     {
         self.queue.push_back(g);
@@ -203,7 +201,7 @@ impl<R: Run> Present<R> {
 
     fn leave_queue(&mut self, g: u32)
         requires within { g < R.settings.cells }
-        requires once { in_queue g self.old.queue ≡ 1 }
+        requires once { times g self.old.queue ≡ 1 }
         ensures { self.new ≡ effect.unqueued g self.old }
     {
         self.queue.remove(g);
@@ -238,7 +236,7 @@ impl<R: Run> Present<R> {
         requires worker { w < length self.old.workers }
         requires born { g < births self.old }
         requires cell { g < R.settings.cells }
-        requires once { in_queue g self.old.queue ≡ 1 }
+        requires once { times g self.old.queue ≡ 1 }
         ensures { self.new ≡ effect.starts w g self.old }
     {
         let goroutine = self.goroutine(g);
@@ -283,7 +281,7 @@ impl<R: Run> Present<R> {
         requires worker { w < length self.old.workers }
         requires born { g < births self.old }
         requires cell { g < R.settings.cells }
-        requires absent { in_queue g self.old.queue ≡ 0 }
+        requires absent { times g self.old.queue ≡ 0 }
         ensures { self.new ≡ effect.queued g (effect.leaves w g (effect.turned Runnable (goroutine self.old g)) self.old) }
     {
         let goroutine = self.goroutine(g);
@@ -357,7 +355,7 @@ impl<R: Run> Present<R> {
     pub fn wakes(&mut self, g: u32)
         requires born { g < births self.old }
         requires cell { g < R.settings.cells }
-        requires absent { in_queue g self.old.queue ≡ 0 }
+        requires absent { times g self.old.queue ≡ 0 }
         ensures { self.new ≡ effect.wakes g self.old }
     {
         let goroutine = self.goroutine(g);
@@ -377,7 +375,7 @@ impl<R: Run> Present<R> {
     /// A goroutine is born, to run a function with a label set. It answers its number.
     pub fn bears(&mut self, function: u32, labels: u8) -> u32
         requires room { births self.old < R.settings.cells }
-        requires absent { in_queue (births self.old) self.old.queue ≡ 0 }
+        requires absent { times (births self.old) self.old.queue ≡ 0 }
         ensures born { result ≡ births self.old }
         ensures state { self.new ≡ record (effect.queued (births self.old) self.old) { goroutines = self.old.goroutines ++ effect.newborn function labels self.old.last_epoch ∷ [] } }
     {

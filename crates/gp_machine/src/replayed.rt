@@ -1,20 +1,17 @@
 //! Worked journals, made again by a machine, entry by entry. Programs, options and journals are those of the
 //! definitions; what a machine has to tell is worked out by hand from the rules of `docs/MACHINE.md`.
 ghost use Rattle.std.specs.Prelude.{◌≡◌, [], IfOk};
-ghost use Rattle.gp_machine.specs.Settings.{AreInRange};
-ghost use Rattle.gp_machine.specs.State.{code_of};
-ghost use Rattle.gp_machine.specs.Run.{IsLegal};
+ghost use Rattle.gp_journal.specs.Settings.{AreInRange};
+ghost use Rattle.gp_journal.specs.State.{code_of};
+ghost use Rattle.gp_journal.specs.Run.{IsLegal};
 ghost use Rattle.gp_machine.specs.Replayed.{ArePointsOf};
 
 mod journals;
 mod programs;
 
-use crate::answer::{Applied, SharedPoint, Wait, Woken};
-use crate::entry::{Ended, Entry};
 use crate::machine::Machine;
-use crate::run::Run;
-use crate::settings::{Request, Settings};
 use gp_isa::{Bad, Memory, Parts, Program, check};
+use gp_journal::{Applied, Ended, Entry, Request, Run, Settings, SharedPoint, Wait, Woken};
 use journals::*;
 use programs::*;
 use std::alloc::Global;

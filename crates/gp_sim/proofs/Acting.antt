@@ -7,9 +7,9 @@ use Rattle.gp_stack.specs.Body.{Progress}
 use Rattle.gp_stack.specs.Goroutine.{local_ahead}
 use Rattle.gp_stack.specs.Peek.{then_at}
 use Rattle.gp_stack.specs.declared.peek.Peek.{Peek}
-use Rattle.gp_machine.specs.declared.entry.Entry.{Entry}
-use Rattle.gp_machine.specs.declared.entry.Entry.TheVariants.{Start, Record}
-use Rattle.gp_machine.specs.declared.settings.Settings.{Settings}
+use Rattle.gp_journal.specs.declared.entry.Entry.{Entry}
+use Rattle.gp_journal.specs.declared.entry.Entry.TheVariants.{Start, Record}
+use Rattle.gp_journal.specs.declared.settings.Settings.{Settings}
 use Rattle.gp_machine.specs.Settings.{quantum}
 use Rattle.gp_machine.specs.State.{Code, State, code_of, goroutine, is_live}
 use Rattle.gp_machine.specs.Due.{asked, over}

@@ -1,8 +1,8 @@
 -- One of some actions is chosen.
 use Rattle.std.proofs.Common.{◌≡◌, ◌≤◌, ◌+◌, ◌%◌, ℕ, List, [], ◌∷◌, length, get_or, Some, None, refl, sym, ap, arith}
 use Rattle.std.proofs.lemmas.List.{get_or_read}
-use Rattle.gp_machine.specs.declared.entry.Entry.{Entry}
-use Rattle.gp_machine.specs.declared.settings.Settings.{Settings}
+use Rattle.gp_journal.specs.declared.entry.Entry.{Entry}
+use Rattle.gp_journal.specs.declared.settings.Settings.{Settings}
 use Rattle.gp_sim.specs.Choice.{number, chosen}
 
 pub none_there : (settings : Settings) (taken : ℕ) (entries : List Entry) → length entries ≡ 0 → chosen settings taken entries ≡ None

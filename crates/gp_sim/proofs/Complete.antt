@@ -3,12 +3,12 @@ use Rattle.std.proofs.Common.{◌≡◌, ◌⊎◌, inl, inr, ◌+◌, ◌<◌, 
 use Rattle.std.proofs.Math.Seq.{take-length}
 use Rattle.std.specs.List.{list_any}
 use Rattle.std.proofs.lemmas.Bool.{cases_lt, cases_Bool, and_cases, or_from, or_right, not_from_false, ltb-false, eqb-false}
-use Rattle.gp_machine.specs.declared.entry.Entry.{Entry}
-use Rattle.gp_machine.specs.declared.goroutine.Goroutine.{Goroutine}
-use Rattle.gp_machine.specs.declared.goroutine.Status.{Status}
-use Rattle.gp_machine.specs.declared.goroutine.Status.TheVariants.{Runnable, Running, Blocked, Faulted, Dead}
-use Rattle.gp_machine.specs.declared.settings.Request.{Request}
-use Rattle.gp_machine.specs.declared.settings.Settings.{Settings}
+use Rattle.gp_journal.specs.declared.entry.Entry.{Entry}
+use Rattle.gp_journal.specs.declared.goroutine.Goroutine.{Goroutine}
+use Rattle.gp_journal.specs.declared.goroutine.Status.{Status}
+use Rattle.gp_journal.specs.declared.goroutine.Status.TheVariants.{Runnable, Running, Blocked, Faulted, Dead}
+use Rattle.gp_journal.specs.declared.settings.Request.{Request}
+use Rattle.gp_journal.specs.declared.settings.Settings.{Settings}
 use Rattle.gp_machine.specs.Settings.{AreInRange}
 use Rattle.gp_machine.specs.State.{Code, State, nobody, goroutine, worker, is_runnable, is_running, is_dead, running}
 use Rattle.gp_machine.specs.Due.{asked, over, is_ready, some_ready, is_full, has_come, calls_for, IsComplete}
@@ -16,8 +16,7 @@ use Rattle.gp_machine.specs.Run.{last, at}
 use Rattle.gp_machine.specs.Crowd.{first_behind, one_if}
 use Rattle.gp_machine.specs.Present.{IsReached}
 use Rattle.gp_machine.specs.Queue.{head_of}
-use Rattle.gp_machine.proofs.OnWorkers.{statuses_match_workers}
-use Rattle.gp_machine.proofs.Reached.{is_kept, holds_runnable, runs_there}
+use Rattle.gp_journal.proofs.Lemmas.{statuses_match_workers, is_kept, holds_runnable, runs_there}
 use Rattle.gp_sim.specs.Choice.{goes_on_with, idle_action, action_of_worker, worker_action, goes_on, answers, profiler_action, with_action, actions_from, actions, chosen}
 use Rattle.gp_sim.proofs.Enabled.{count_none, none_chosen}
 

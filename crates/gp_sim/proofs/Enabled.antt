@@ -6,30 +6,25 @@ use Rattle.std.proofs.lemmas.List.Elements.{All-nil, All-cons, All-head, All-get
 use Rattle.std.proofs.lemmas.List.Quantifiers.{position-Some}
 use Rattle.std.proofs.lemmas.List.Sums.{sum_by-cons, fails_before_first}
 use Rattle.gp_isa.specs.Trace.{is_local}
-use Rattle.gp_machine.specs.declared.entry.Entry.{Entry}
-use Rattle.gp_machine.specs.declared.entry.Entry.TheVariants.{Start, Run, Op, Tick, Park, Open, Refuse, Record}
-use Rattle.gp_machine.specs.declared.goroutine.Status.{Status}
-use Rattle.gp_machine.specs.declared.goroutine.Status.TheVariants.{Runnable, Running, Blocked, Faulted, Dead}
-use Rattle.gp_machine.specs.declared.settings.Settings.{Settings}
+use Rattle.gp_journal.specs.declared.entry.Entry.{Entry}
+use Rattle.gp_journal.specs.declared.entry.Entry.TheVariants.{Start, Run, Op, Tick, Park, Open, Refuse, Record}
+use Rattle.gp_journal.specs.declared.goroutine.Status.{Status}
+use Rattle.gp_journal.specs.declared.goroutine.Status.TheVariants.{Runnable, Running, Blocked, Faulted, Dead}
+use Rattle.gp_journal.specs.declared.settings.Settings.{Settings}
 use Rattle.gp_machine.specs.Settings.{AreInRange, quantum}
 use Rattle.gp_machine.specs.State.{Code, State, nobody, goroutine, worker, is_runnable, is_live, is_idle, is_behind, live, running}
 use Rattle.gp_machine.specs.Due.{asked, over, due, extent, next_instruction}
 use Rattle.gp_machine.specs.May.{May, is_recorded}
-use Rattle.gp_machine.specs.Crowd.{first_behind}
-use Rattle.gp_machine.specs.Present.{IsReached, in_queue}
-use Rattle.gp_machine.specs.Queue.{head_of}
-use Rattle.gp_machine.proofs.InLine.{times-cons, one_at}
-use Rattle.gp_machine.proofs.Parts.{live_status}
-use Rattle.gp_machine.proofs.Reached.{is_whole, is_kept, holds_runnable}
-use Rattle.gp_machine.proofs.Steps.{behind_parts, behind_from, active_last}
-use Rattle.gp_machine.proofs.Whole.{Behind, some_same}
+use Rattle.gp_machine.specs.Present.{IsReached}
+use Rattle.gp_machine.specs.Standing.{head_of, times, first_behind}
+use Rattle.gp_journal.proofs.Lemmas.{times-cons, one_at, live_status, is_whole, is_kept, holds_runnable, behind_parts, behind_from, active_last, Behind, some_same}
 use Rattle.gp_sim.specs.Choice.{goes_on_with, idle_action, action_of_worker, worker_action, goes_on, answers, profiler_action, with_action, actions_from, actions, Turn, chosen, number}
 
 -- who stands at the head of a queue stands in it
-pub head_in : (queue : List ℕ) (g : ℕ) → head_of queue ≡ Some g → 1 ≤ in_queue g queue
+pub head_in : (queue : List ℕ) (g : ℕ) → head_of queue ≡ Some g → 1 ≤ times g queue
 head_in [] g e = absurd (cc)
 head_in (h ∷ rest) g e =
-    subst (λ n. 1 ≤ in_queue n (h ∷ rest)) (some_same e) (omega (arith, times-cons h h rest, one_at h))
+    subst (λ n. 1 ≤ times n (h ∷ rest)) (some_same e) (omega (arith, times-cons h h rest, one_at h))
 
 runnable_by : (status : Status) → 1 ≤ (if is_runnable status then 1 else 0) → status ≡ Runnable
 runnable_by Runnable one = refl

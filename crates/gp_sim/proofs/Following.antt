@@ -19,14 +19,14 @@ use Rattle.gp_sync.specs.declared.effect.Effect.{Effect}
 use Rattle.gp_sync.specs.declared.effect.Effect.TheVariants as effect
 use Rattle.gp_sync.specs.Operations.{Channel, Mutex, send, recv, lock, unlock}
 use Rattle.gp_sync.specs.Places.{places_of}
-use Rattle.gp_machine.specs.declared.answer.Applied.{Applied}
-use Rattle.gp_machine.specs.declared.answer.Applied.TheVariants.{Plain, Passed, Born, Blocked, Fault}
-use Rattle.gp_machine.specs.declared.entry.Entry.{Entry}
-use Rattle.gp_machine.specs.declared.entry.Entry.TheVariants.{Start, Run, Op, Tick, Park, Open, Refuse, Record, Close}
-use Rattle.gp_machine.specs.declared.goroutine.Goroutine.{Goroutine}
-use Rattle.gp_machine.specs.declared.goroutine.Status.{Status}
-use Rattle.gp_machine.specs.declared.goroutine.Status.TheVariants.{Runnable, Running, Faulted, Dead, Blocked as Waiting}
-use Rattle.gp_machine.specs.declared.settings.Settings.{Settings}
+use Rattle.gp_journal.specs.declared.answer.Applied.{Applied}
+use Rattle.gp_journal.specs.declared.answer.Applied.TheVariants.{Plain, Passed, Born, Blocked, Fault}
+use Rattle.gp_journal.specs.declared.entry.Entry.{Entry}
+use Rattle.gp_journal.specs.declared.entry.Entry.TheVariants.{Start, Run, Op, Tick, Park, Open, Refuse, Record, Close}
+use Rattle.gp_journal.specs.declared.goroutine.Goroutine.{Goroutine}
+use Rattle.gp_journal.specs.declared.goroutine.Status.{Status}
+use Rattle.gp_journal.specs.declared.goroutine.Status.TheVariants.{Runnable, Running, Faulted, Dead, Blocked as Waiting}
+use Rattle.gp_journal.specs.declared.settings.Settings.{Settings}
 use Rattle.gp_machine.specs.State.{Code, State, code_of, nobody, goroutine, worker, channel, mutex, births, first, is_dead, is_live}
 use Rattle.gp_machine.specs.Settings.{quantum}
 use Rattle.gp_machine.specs.Due.{asked, over, due, extent, next_instruction}
@@ -34,12 +34,7 @@ use Rattle.gp_machine.specs.May.{May}
 use Rattle.gp_machine.specs.Effect.{turned, recorded, passed, is_over_after, unmarked, blocked_at, woken_at, child_of, labels_at, with_goroutine, passes, faults, bears, meets, operates, waiter, acts, after}
 use Rattle.gp_machine.specs.Answer.{answer_to, op_answer, operation_answer, block_delay}
 use Rattle.gp_machine.specs.Present.{IsReached}
-use Rattle.gp_machine.proofs.Acting.{next_named}
-use Rattle.gp_machine.proofs.Parts.{one_if_eq, Balances, with_wait_lists, blocked_by, live_status}
-use Rattle.gp_machine.proofs.Places.{changed}
-use Rattle.gp_machine.proofs.Reached.{is_whole}
-use Rattle.gp_machine.proofs.WaitLists.{send_moves, recv_moves, lock_moves, unlock_moves}
-use Rattle.gp_machine.proofs.Whole.{seats, IsWhole, live_within}
+use Rattle.gp_journal.proofs.Lemmas.{next_named, one_if_eq, Balances, with_wait_lists, blocked_by, live_status, changed, is_whole, send_moves, recv_moves, lock_moves, unlock_moves, seats, IsWhole, live_within}
 use Rattle.gp_sim.specs.Bodies.{nowhere, AreBodiesOf}
 
 -- where a goroutine stands

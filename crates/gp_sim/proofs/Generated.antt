@@ -4,7 +4,7 @@ use Rattle.std.proofs.lemmas.Bool.{lt-ltb, le-ltb, cases_lt}
 use Rattle.std.proofs.lemmas.Option.{get_or_from_slice_get, slice_get_within, slice_get-get_or}
 use Rattle.rand_pcg.specs.Lcg.{Lcg, next_state, state_after, next, advance}
 use Rattle.rand_pcg.specs.Pcg.{multiplier_64, output_xsh_rr, pcg32}
-use Rattle.gp_machine.specs.declared.settings.Settings.{Settings}
+use Rattle.gp_journal.specs.declared.settings.Settings.{Settings}
 use Rattle.gp_sim.specs.Choice.{number, seeded}
 use native.Mathlib.Numerals.{unary_clauses}
 

@@ -10,20 +10,16 @@ use Rattle.gp_isa.specs.Names.{IsThere as Names, AreThere}
 use Rattle.gp_isa.specs.Trace.{Instruction, Local, Labels, Send, Recv, Lock, Unlock, Spawn, Point, trace}
 use Rattle.gp_isa.proofs.NamedThere.{traces_name_what_is_there}
 use Rattle.gp_stack.specs.Goroutine.{no_point, next_point, stack_of, set_after, set_after_all, labels_of, frame_limit}
-use Rattle.gp_machine.specs.declared.entry.Entry.{Entry}
-use Rattle.gp_machine.specs.declared.entry.Entry.TheVariants.{Start, Run, Op, Tick, Park, Open, Refuse, Record, Close}
-use Rattle.gp_machine.specs.declared.goroutine.Goroutine.{Goroutine}
-use Rattle.gp_machine.specs.declared.settings.Settings.{Settings}
+use Rattle.gp_journal.specs.declared.entry.Entry.{Entry}
+use Rattle.gp_journal.specs.declared.entry.Entry.TheVariants.{Start, Run, Op, Tick, Park, Open, Refuse, Record, Close}
+use Rattle.gp_journal.specs.declared.goroutine.Goroutine.{Goroutine}
+use Rattle.gp_journal.specs.declared.settings.Settings.{Settings}
 use Rattle.gp_machine.specs.State.{Code, State, code_of, nobody, goroutine, first}
 use Rattle.gp_machine.specs.May.{May}
 use Rattle.gp_machine.specs.Effect.{unmarked, woken_at, child_of, labels_at, acts, after}
 use Rattle.gp_machine.specs.Run.{AreLegal}
 use Rattle.gp_machine.specs.Frozen.{row, rows_taken}
-use Rattle.gp_machine.proofs.Places.{changed, pushed}
-use Rattle.gp_machine.proofs.Whole.{IsWhole}
-use Rattle.gp_machine.proofs.Acts.{acts_all}
-use Rattle.gp_machine.proofs.Steps.{step_whole}
-use Rattle.gp_machine.proofs.Law.{first_whole}
+use Rattle.gp_journal.proofs.Lemmas.{changed, pushed, IsWhole, acts_all, step_whole, first_whole}
 use Rattle.gp_sim.specs.Profiles.{records_from, records_of}
 use Rattle.gp_sim.specs.Named.{IsRecordOf, RecordsAreThere}
 use Rattle.gp_sim.proofs.Framed.{IsThere, IsFramed, trace_framed}

@@ -1,19 +1,16 @@
 -- How the records of the goroutine profiles grow, and that they are the frozen rows.
 use Rattle.std.proofs.Common.{◌≡◌, ◌⊎◌, inl, inr, ℕ, ◌+◌, ◌-◌, ◌<◌, Bool, true, false, List, [], ◌∷◌, ◌++◌, length, get_or, refl, sym, ap, ◌∙◌, subst, arith, suc, true≢false}
 use Rattle.gp_stack.specs.declared.record.Record.{Record as Row}
-use Rattle.gp_machine.specs.declared.entry.Entry.{Entry}
-use Rattle.gp_machine.specs.declared.entry.Entry.TheVariants.{Op, Open, Record, Close}
-use Rattle.gp_machine.specs.declared.settings.Settings.{Settings}
+use Rattle.gp_journal.specs.declared.entry.Entry.{Entry}
+use Rattle.gp_journal.specs.declared.entry.Entry.TheVariants.{Op, Open, Record, Close}
+use Rattle.gp_journal.specs.declared.settings.Settings.{Settings}
 use Rattle.gp_machine.specs.State.{Code, State, goroutine, first}
 use Rattle.gp_machine.specs.May.{May}
 use Rattle.gp_machine.specs.Effect.{after}
 use Rattle.gp_machine.specs.Run.{AreLegal, IsLegal, after_all, last}
 use Rattle.gp_machine.specs.Frozen.{row, frozen, rows_taken, sorted}
 use Rattle.gp_machine.specs.JournalLaw.{has_close}
-use Rattle.gp_machine.proofs.Whole.{IsWhole}
-use Rattle.gp_machine.proofs.Acts.{acts_all}
-use Rattle.gp_machine.proofs.Steps.{step_whole, none_active, active_last}
-use Rattle.gp_machine.proofs.Law.{first_whole, all_whole, front_legal, rest_legal, after_all-append, quiet_active, rows_are_frozen}
+use Rattle.gp_journal.proofs.Lemmas.{IsWhole, acts_all, step_whole, none_active, active_last, first_whole, all_whole, front_legal, rest_legal, after_all-append, quiet_active, rows_are_frozen}
 use Rattle.gp_sim.specs.Profiles.{records_from, records_of, with_row}
 use Rattle.gp_sim.specs.ProfilesLaw.{RecordsGrow, RecordsAreCounted, RecordsAreFrozen}
 

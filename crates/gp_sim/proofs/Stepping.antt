@@ -11,12 +11,12 @@ use Rattle.gp_stack.specs.declared.statement.Operation.{Operation}
 use Rattle.gp_stack.specs.Body.{Progress, IsAtShared}
 use Rattle.gp_stack.specs.Goroutine.{next_point, no_point, is_ended, stack_of, labels_of, local_ahead, frame_limit}
 use Rattle.gp_stack.specs.Peek.{operation_of}
-use Rattle.gp_machine.specs.declared.answer.Applied.{Applied}
-use Rattle.gp_machine.specs.declared.answer.Applied.TheVariants.{Plain, Passed, Born, Blocked, Fault}
-use Rattle.gp_machine.specs.declared.answer.SharedPoint.{SharedPoint}
-use Rattle.gp_machine.specs.declared.entry.Entry.{Entry}
-use Rattle.gp_machine.specs.declared.entry.Entry.TheVariants.{Start, Run, Op, Tick, Park, Open, Refuse, Record, Close}
-use Rattle.gp_machine.specs.declared.settings.Settings.{Settings}
+use Rattle.gp_journal.specs.declared.answer.Applied.{Applied}
+use Rattle.gp_journal.specs.declared.answer.Applied.TheVariants.{Plain, Passed, Born, Blocked, Fault}
+use Rattle.gp_journal.specs.declared.answer.SharedPoint.{SharedPoint}
+use Rattle.gp_journal.specs.declared.entry.Entry.{Entry}
+use Rattle.gp_journal.specs.declared.entry.Entry.TheVariants.{Start, Run, Op, Tick, Park, Open, Refuse, Record, Close}
+use Rattle.gp_journal.specs.declared.settings.Settings.{Settings}
 use Rattle.gp_machine.specs.State.{Code, State, code_of, goroutine, worker, trace_of, is_live, first}
 use Rattle.gp_machine.specs.Due.{asked, over, due, extent, next_instruction}
 use Rattle.gp_machine.specs.Settings.{AreInRange, quantum}
@@ -26,10 +26,7 @@ use Rattle.gp_machine.specs.Effect.{after}
 use Rattle.gp_machine.specs.Run.{last}
 use Rattle.gp_machine.specs.Answer.{op_answer}
 use Rattle.gp_machine.specs.Present.{IsReached, IsPointOf}
-use Rattle.gp_machine.proofs.Law.{after_all-append}
-use Rattle.gp_machine.proofs.Parts.{live_status}
-use Rattle.gp_machine.proofs.Reached.{is_whole}
-use Rattle.gp_machine.proofs.Whole.{live_within}
+use Rattle.gp_journal.proofs.Lemmas.{after_all-append, live_status, is_whole, live_within}
 use Rattle.gp_sim.specs.Bodies.{nowhere, AreBodiesOf, Spawns, MayBear, Follows}
 use Rattle.gp_sim.specs.Profiles.{records_of, grown, with_row}
 use Rattle.gp_sim.specs.Simulation.{IsSimulation, IsQuiet}

@@ -1,8 +1,8 @@
 -- The choice's journal, turn by turn.
 use Rattle.std.proofs.Common.{◌≡◌, ◌+◌, ◌-◌, ◌<◌, ◌≤◌, ℕ, zero, suc, List, [], ◌∷◌, ◌++◌, length, Option, Some, None, refl, sym, ap, ◌∙◌, subst, arith, length-append}
 use Rattle.std.proofs.lemmas.List.{append_assoc, append-nil}
-use Rattle.gp_machine.specs.declared.entry.Entry.{Entry}
-use Rattle.gp_machine.specs.declared.settings.Settings.{Settings}
+use Rattle.gp_journal.specs.declared.entry.Entry.{Entry}
+use Rattle.gp_journal.specs.declared.settings.Settings.{Settings}
 use Rattle.gp_machine.specs.Settings.{AreInRange}
 use Rattle.gp_machine.specs.State.{Code, State, first}
 use Rattle.gp_machine.specs.May.{May}
@@ -10,8 +10,7 @@ use Rattle.gp_machine.specs.Effect.{after}
 use Rattle.gp_machine.specs.Run.{AreLegal, IsLegal, after_all, last, IsFinished}
 use Rattle.gp_machine.specs.NumberLaws.{most_entries}
 use Rattle.gp_machine.specs.Present.{IsReached}
-use Rattle.gp_machine.proofs.Law.{after_all-append}
-use Rattle.gp_machine.proofs.Totals.{entries_are_bounded}
+use Rattle.gp_journal.proofs.Lemmas.{after_all-append, entries_are_bounded}
 use Rattle.gp_sim.specs.Choice.{actions, Turn, chosen, entries_of, entries_from, sim_journal}
 use Rattle.gp_sim.specs.ChoiceLaw.{SimIsFinished}
 use Rattle.gp_sim.specs.Turns.{IsPartOfSim}

@@ -6,9 +6,9 @@ use Rattle.gp_stack.specs.declared.body.Body.{Body}
 use Rattle.gp_stack.specs.declared.statement.Operation.{Operation}
 use Rattle.gp_stack.specs.declared.statement.Operation.TheVariants.{Spawn}
 use Rattle.gp_stack.specs.Body.{Progress, progress_of, StandsIn}
-use Rattle.gp_machine.specs.declared.answer.Applied.{Applied}
-use Rattle.gp_machine.specs.declared.answer.Applied.TheVariants.{Passed, Born}
-use Rattle.gp_machine.specs.declared.answer.SharedPoint.{SharedPoint}
+use Rattle.gp_journal.specs.declared.answer.Applied.{Applied}
+use Rattle.gp_journal.specs.declared.answer.Applied.TheVariants.{Passed, Born}
+use Rattle.gp_journal.specs.declared.answer.SharedPoint.{SharedPoint}
 use Rattle.gp_machine.specs.State.{State, goroutine, is_live}
 
 -- where a body stands that was never born

@@ -2,9 +2,9 @@
 use Rattle.std.specs.Prelude.{◌+◌, ◌-◌, ◌%◌, ℕ, zero, suc, ◌&&◌, ◌||◌, ◌==◌, List, [], ◌∷◌, length, get_or, if◌then◌else◌, nat_lt, nat_le, Option, Some, None}
 use Rattle.rand_pcg.specs.Lcg.{Lcg, started, advance, increment_of}
 use Rattle.rand_pcg.specs.Pcg.{multiplier_64, output_xsh_rr}
-use Rattle.gp_machine.specs.declared.entry.Entry.{Entry}
-use Rattle.gp_machine.specs.declared.entry.Entry.TheVariants.{Start, Open, Refuse, Record, Close}
-use Rattle.gp_machine.specs.declared.settings.Settings.{Settings}
+use Rattle.gp_journal.specs.declared.entry.Entry.{Entry}
+use Rattle.gp_journal.specs.declared.entry.Entry.TheVariants.{Start, Open, Refuse, Record, Close}
+use Rattle.gp_journal.specs.declared.settings.Settings.{Settings}
 use Rattle.gp_machine.specs.State.{Code, State, goroutine, worker, is_behind, live, running, first}
 use Rattle.gp_machine.specs.Due.{asked, over, due}
 use Rattle.gp_machine.specs.Effect.{after}

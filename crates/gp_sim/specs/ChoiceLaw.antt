@@ -1,7 +1,7 @@
 -- Laws of the choice by numbers.
 use Rattle.std.specs.Prelude.{◌≡◌, ℕ, List, [], All, Some}
-use Rattle.gp_machine.specs.declared.entry.Entry.{Entry}
-use Rattle.gp_machine.specs.declared.settings.Settings.{Settings}
+use Rattle.gp_journal.specs.declared.entry.Entry.{Entry}
+use Rattle.gp_journal.specs.declared.settings.Settings.{Settings}
 use Rattle.gp_machine.specs.Settings.{AreInRange}
 use Rattle.gp_machine.specs.State.{Code}
 use Rattle.gp_machine.specs.Due.{IsComplete}

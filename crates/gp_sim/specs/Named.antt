@@ -4,8 +4,8 @@ use Rattle.gp_isa.specs.declared.frame.Frame.{Frame}
 use Rattle.gp_isa.specs.declared.parts.Parts.{Parts}
 use Rattle.gp_isa.specs.InLimits.{AreInLimits}
 use Rattle.gp_stack.specs.declared.record.Record.{Record as Row}
-use Rattle.gp_machine.specs.declared.entry.Entry.{Entry}
-use Rattle.gp_machine.specs.declared.settings.Settings.{Settings}
+use Rattle.gp_journal.specs.declared.entry.Entry.{Entry}
+use Rattle.gp_journal.specs.declared.settings.Settings.{Settings}
 use Rattle.gp_machine.specs.State.{code_of}
 use Rattle.gp_machine.specs.Run.{IsLegal}
 use Rattle.gp_sim.specs.Profiles.{records_of}

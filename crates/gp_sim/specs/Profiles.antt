@@ -1,9 +1,9 @@
 -- The records of the goroutine profiles of a journal.
 use Rattle.std.specs.Prelude.{◌≡◌, ◌-◌, ℕ, List, [], ◌∷◌, ◌++◌, length, get_or, set}
 use Rattle.gp_stack.specs.declared.record.Record.{Record as Row}
-use Rattle.gp_machine.specs.declared.entry.Entry.{Entry}
-use Rattle.gp_machine.specs.declared.entry.Entry.TheVariants.{Open, Record}
-use Rattle.gp_machine.specs.declared.settings.Settings.{Settings}
+use Rattle.gp_journal.specs.declared.entry.Entry.{Entry}
+use Rattle.gp_journal.specs.declared.entry.Entry.TheVariants.{Open, Record}
+use Rattle.gp_journal.specs.declared.settings.Settings.{Settings}
 use Rattle.gp_machine.specs.State.{Code, State, goroutine, first}
 use Rattle.gp_machine.specs.Effect.{after}
 use Rattle.gp_machine.specs.Run.{last}

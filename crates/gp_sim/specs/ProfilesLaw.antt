@@ -1,7 +1,7 @@
 -- The law of the records: how they grow, and what they show.
 use Rattle.std.specs.Prelude.{◌≡◌, List, [], ◌∷◌, ◌++◌, length}
-use Rattle.gp_machine.specs.declared.entry.Entry.{Entry}
-use Rattle.gp_machine.specs.declared.settings.Settings.{Settings}
+use Rattle.gp_journal.specs.declared.entry.Entry.{Entry}
+use Rattle.gp_journal.specs.declared.settings.Settings.{Settings}
 use Rattle.gp_machine.specs.State.{Code}
 use Rattle.gp_machine.specs.May.{May}
 use Rattle.gp_machine.specs.Run.{IsLegal, last}

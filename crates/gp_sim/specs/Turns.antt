@@ -1,7 +1,7 @@
 -- A journal that is built turn by turn.
 use Rattle.std.specs.Prelude.{◌≡◌, ◌-◌, ◌≤◌, ℕ, List, ◌++◌, length}
-use Rattle.gp_machine.specs.declared.entry.Entry.{Entry}
-use Rattle.gp_machine.specs.declared.settings.Settings.{Settings}
+use Rattle.gp_journal.specs.declared.entry.Entry.{Entry}
+use Rattle.gp_journal.specs.declared.settings.Settings.{Settings}
 use Rattle.gp_machine.specs.State.{Code}
 use Rattle.gp_machine.specs.Run.{IsLegal, last}
 use Rattle.gp_machine.specs.NumberLaws.{most_entries}

@@ -2,7 +2,7 @@ ghost use Rattle.std.specs.Prelude.{◌≡◌, ◌++◌, ◌∷◌, [], ℕ, Som
 ghost use Rattle.gp_machine.specs.State.{code_of, goroutine};
 ghost use Rattle.gp_machine.specs.May.{May};
 ghost use Rattle.gp_machine.specs.Run.{last};
-ghost use Rattle.gp_machine.specs.declared.entry.Entry.TheVariants as entry;
+ghost use Rattle.gp_journal.specs.declared.entry.Entry.TheVariants as entry;
 ghost use Rattle.gp_sim.specs.Simulation.{IsQuiet};
 
 use crate::simulation::Simulation;

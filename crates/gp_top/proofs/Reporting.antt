@@ -1,14 +1,14 @@
 -- What a report tells of the journal of a run.
 use Rattle.std.proofs.Common.{◌≡◌, ℕ, List, [], ◌∷◌, ◌++◌, length, map, refl, ap, ◌∙◌}
-use Rattle.gp_machine.specs.declared.entry.Entry.{Entry}
-use Rattle.gp_machine.specs.declared.entry.Entry.TheVariants.{Open, Refuse, Record, Close}
-use Rattle.gp_machine.specs.declared.settings.Settings.{Settings}
+use Rattle.gp_journal.specs.declared.entry.Entry.{Entry}
+use Rattle.gp_journal.specs.declared.entry.Entry.TheVariants.{Open, Refuse, Record, Close}
+use Rattle.gp_journal.specs.declared.settings.Settings.{Settings}
 use Rattle.gp_machine.specs.Settings.{AreInRange}
 use Rattle.gp_machine.specs.State.{Code, State, first}
 use Rattle.gp_machine.specs.Effect.{after}
 use Rattle.gp_machine.specs.Run.{IsLegal, last}
 use Rattle.gp_machine.specs.Frozen.{rows_taken}
-use Rattle.gp_machine.proofs.Totals.{kept_at}
+use Rattle.gp_journal.proofs.Lemmas.{kept_at}
 use Rattle.gp_sim.specs.Profiles.{records_from, records_of}
 use Rattle.gp_top.specs.Report.{ids_taken, recorded_ids, ids, refusals}
 

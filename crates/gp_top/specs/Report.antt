@@ -2,10 +2,10 @@
 use Rattle.std.specs.Prelude.{◌≡◌, ◌≤◌, ◌+◌, ℕ, List, [], ◌∷◌, length, get_or, map}
 use Rattle.gp_isa.specs.declared.parts.Parts.{Parts}
 use Rattle.gp_stack.specs.declared.record.Record.{Record as Row}
-use Rattle.gp_machine.specs.declared.entry.Entry.{Entry}
-use Rattle.gp_machine.specs.declared.entry.Entry.TheVariants.{Open, Refuse, Record, Close}
-use Rattle.gp_machine.specs.declared.goroutine.Worker.{Worker}
-use Rattle.gp_machine.specs.declared.settings.Settings.{Settings}
+use Rattle.gp_journal.specs.declared.entry.Entry.{Entry}
+use Rattle.gp_journal.specs.declared.entry.Entry.TheVariants.{Open, Refuse, Record, Close}
+use Rattle.gp_journal.specs.declared.goroutine.Worker.{Worker}
+use Rattle.gp_journal.specs.declared.settings.Settings.{Settings}
 use Rattle.gp_machine.specs.State.{code_of, births, live}
 use Rattle.gp_machine.specs.Due.{ended}
 use Rattle.gp_machine.specs.Made.{made_by}

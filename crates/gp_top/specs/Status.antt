@@ -1,9 +1,9 @@
 -- The exit statuses of complete runs.
 use Rattle.std.specs.Prelude.{ℕ, List, [], ◌∷◌}
 use Rattle.gp_isa.specs.declared.parts.Parts.{Parts}
-use Rattle.gp_machine.specs.declared.entry.Ended.{Ended}
-use Rattle.gp_machine.specs.declared.entry.Ended.TheVariants as ended
-use Rattle.gp_machine.specs.declared.settings.Settings.{Settings}
+use Rattle.gp_journal.specs.declared.entry.Ended.{Ended}
+use Rattle.gp_journal.specs.declared.entry.Ended.TheVariants as ended
+use Rattle.gp_journal.specs.declared.settings.Settings.{Settings}
 use Rattle.gp_machine.specs.State.{code_of}
 use Rattle.gp_machine.specs.Due as machine
 use Rattle.gp_machine.specs.Run.{last}

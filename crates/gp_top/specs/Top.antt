@@ -2,7 +2,7 @@
 use Rattle.std.specs.Prelude.{◌≡◌, ◌≢◌, ◌<◌, ◌≤◌, ◌⊎◌, ℕ, List, length, drop, Option, Some, IfSome}
 use Rattle.gp_io.specs.Outside.{File}
 use Rattle.gp_isa.specs.declared.parts.Parts.{Parts}
-use Rattle.gp_machine.specs.declared.settings.Settings.{Settings}
+use Rattle.gp_journal.specs.declared.settings.Settings.{Settings}
 use Rattle.gp_text.specs.declared.cause.Cause.{Cause}
 use Rattle.gp_text.specs.Reading.{program_of, Gives, Refuses}
 use Rattle.gp_words.specs.declared.jobs.Job.TheVariants.{Sim}

@@ -1,5 +1,5 @@
 ghost use Rattle.std.specs.Prelude.{◌≡◌, ◌≤◌, IfOk, map};
-ghost use Rattle.gp_machine.specs.declared.goroutine.Worker.{Worker};
+ghost use Rattle.gp_journal.specs.declared.goroutine.Worker.{Worker};
 ghost use Rattle.gp_machine.specs.Settings.{AreInRange};
 ghost use Rattle.gp_machine.specs.State.{code_of};
 ghost use Rattle.gp_machine.specs.Run.{last, IsFinished};

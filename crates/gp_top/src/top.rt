@@ -1,7 +1,7 @@
 ghost use Rattle.std.specs.Prelude.{◌≡◌, ◌≢◌, ◌≤◌, ◌⊎◌, List, ℕ, length, Some, IfSome, None};
 ghost use Rattle.gp_io.specs.Outside.{Rose};
 ghost use Rattle.gp_isa.specs.declared.parts.Parts.{Parts};
-ghost use Rattle.gp_machine.specs.declared.settings.Settings.{Settings};
+ghost use Rattle.gp_journal.specs.declared.settings.Settings.{Settings};
 ghost use Rattle.gp_words.specs.Words.{texts};
 ghost use Rattle.gp_words.specs.declared.jobs.Job.TheVariants.{Sim};
 ghost use Rattle.gp_words.specs.Job.{job_of};

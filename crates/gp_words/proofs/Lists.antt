@@ -5,7 +5,7 @@ use Rattle.std.proofs.lemmas.Bool.{leb-true, le-leb, lt-leb}
 use Rattle.std.proofs.lemmas.List.{at_drop_more, at_drop_all}
 use Rattle.std.proofs.lemmas.List.Elements.{All-nil, All-cons}
 use Rattle.std.specs.Str.{bytes_eq}
-use Rattle.gp_machine.specs.declared.settings.Request.TheVariants.{Clock, End}
+use Rattle.gp_journal.specs.declared.settings.Request.TheVariants.{Clock, End}
 use Rattle.gp_words.specs.declared.setting.Values.{Values}
 use Rattle.gp_words.specs.declared.setting.Values.TheVariants.{Numbers, Instants, Lists}
 use Rattle.gp_words.specs.declared.choice.Value.{Value}

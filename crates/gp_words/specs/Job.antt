@@ -1,7 +1,7 @@
 -- The job that command words name.
 use Rattle.std.specs.Prelude.{ℕ, List, [], ◌∷◌, codes, if◌then◌else◌}
 use Rattle.std.specs.Str.{bytes_eq}
-use Rattle.gp_machine.specs.declared.settings.Settings.{Settings}
+use Rattle.gp_journal.specs.declared.settings.Settings.{Settings}
 use Rattle.gp_words.specs.Causes.{bad_command, missing, extra}
 use Rattle.gp_words.specs.declared.jobs.Job.{Job}
 use Rattle.gp_words.specs.declared.jobs.Job.TheVariants.{Sim}

@@ -2,7 +2,7 @@
 use Rattle.std.specs.Prelude.{◌≤◌, ◌+◌, ◌*◌, ℕ, List, [], ◌∷◌, ◌++◌, length, All, Option, Some, None, option_map, count_by, codes, nat_lt, if◌then◌else◌}
 use Rattle.std.specs.Str.{bytes_eq}
 use Rattle.gp_isa.specs.Limits.{most_instant}
-use Rattle.gp_machine.specs.declared.settings.Request.TheVariants.{Clock, End}
+use Rattle.gp_journal.specs.declared.settings.Request.TheVariants.{Clock, End}
 use Rattle.gp_words.specs.Causes.{missing, unknown_option, bad_number, twice}
 use Rattle.gp_words.specs.declared.setting.Setting.{Setting}
 use Rattle.gp_words.specs.declared.setting.Values.{Values}

@@ -1,8 +1,8 @@
 -- The settings of the options taken.
 use Rattle.std.specs.Prelude.{ℕ, List, [], ◌∷◌, Option, Some, None, unwrap_or, if◌then◌else◌}
 use Rattle.std.specs.List.{filter_map}
-use Rattle.gp_machine.specs.declared.settings.Request.{Request}
-use Rattle.gp_machine.specs.declared.settings.Settings.{Settings}
+use Rattle.gp_journal.specs.declared.settings.Request.{Request}
+use Rattle.gp_journal.specs.declared.settings.Settings.{Settings}
 use Rattle.gp_words.specs.declared.setting.Setting.{Setting}
 use Rattle.gp_words.specs.declared.setting.Setting.TheVariants.{Workers, Room, Seed, Cells, Entries}
 use Rattle.gp_words.specs.declared.choice.Choice.{Choice}

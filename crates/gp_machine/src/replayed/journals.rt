@@ -1,11 +1,10 @@
 //! The worked journals, and what is handed over with their entries.
 ghost use Rattle.std.specs.Prelude.{◌≡◌, [], ◌∷◌};
 ghost use Rattle.gp_machine.specs.Replayed.{ArePointsOf};
-ghost use Rattle.gp_machine.specs.Worked as worked;
-ghost use Rattle.gp_machine.specs.declared.settings.Request.TheVariants as request;
+ghost use Rattle.gp_journal.specs.Worked as worked;
+ghost use Rattle.gp_journal.specs.declared.settings.Request.TheVariants as request;
 
-use crate::answer::SharedPoint;
-use crate::entry::Entry;
+use gp_journal::{Entry, SharedPoint};
 use gp_stack::Operation;
 
 // The shared points of the worked programs.

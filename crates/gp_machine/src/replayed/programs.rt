@@ -1,9 +1,9 @@
 //! The worked programs and their options.
 ghost use Rattle.std.specs.Prelude.{◌≡◌, [], IfOk, codes};
-ghost use Rattle.gp_machine.specs.Worked as worked;
+ghost use Rattle.gp_journal.specs.Worked as worked;
 
-use crate::settings::{Request, Settings};
 use gp_isa::{ChannelDecl, Function, Memory, MutexDecl, Parts, Sequence, Stmt, Stmts, Text, What};
+use gp_journal::{Request, Settings};
 use std::alloc::Global;
 
 fn statement(line: u32, what: What) -> Stmt

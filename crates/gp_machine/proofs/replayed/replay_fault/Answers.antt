@@ -1,10 +1,10 @@
 use Rattle.std.proofs.Common.{[], ◌∷◌, sym, subst}
-use Rattle.gp_machine.specs.declared.settings.Request.TheVariants.{End}
-use Rattle.gp_machine.specs.State.{code_of}
-use Rattle.gp_machine.specs.Run.{IsLegal}
+use Rattle.gp_journal.specs.declared.settings.Request.TheVariants.{End}
+use Rattle.gp_journal.specs.State.{code_of}
+use Rattle.gp_journal.specs.Run.{IsLegal}
 use Rattle.gp_machine.specs.Replayed.{ArePointsOf}
-use Rattle.gp_machine.specs.Worked.{faulty, plain}
-use Rattle.gp_machine.proofs.Journals.{fault_of_unlock}
+use Rattle.gp_journal.specs.Worked.{faulty, plain}
+use Rattle.gp_journal.proofs.Journals.{fault_of_unlock}
 use Rattle.gp_machine.proofs.Handed.{end_range}
 use Rattle.gp_machine.proofs.replayed.replay_fault.Goals as goal
 

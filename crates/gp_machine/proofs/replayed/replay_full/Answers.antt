@@ -1,9 +1,9 @@
 use Rattle.std.proofs.Common.{sym, subst}
-use Rattle.gp_machine.specs.State.{code_of}
-use Rattle.gp_machine.specs.Run.{IsLegal}
+use Rattle.gp_journal.specs.State.{code_of}
+use Rattle.gp_journal.specs.Run.{IsLegal}
 use Rattle.gp_machine.specs.Replayed.{ArePointsOf}
-use Rattle.gp_machine.specs.Worked.{long, full_settings}
-use Rattle.gp_machine.proofs.Journals.{full_journal_is}
+use Rattle.gp_journal.specs.Worked.{long, full_settings}
+use Rattle.gp_journal.proofs.Journals.{full_journal_is}
 use Rattle.gp_machine.proofs.Handed.{full_range}
 use Rattle.gp_machine.proofs.replayed.replay_full.Goals as goal
 

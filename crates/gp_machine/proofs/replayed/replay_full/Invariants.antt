@@ -1,4 +1,4 @@
-use Rattle.gp_machine.specs.Worked.{long, full_settings}
+use Rattle.gp_journal.specs.Worked.{long, full_settings}
 use Rattle.gp_machine.proofs.replayed.replay_full.Given as goal
 
 abbrev pub ghosts-run : goal.ghosts-run

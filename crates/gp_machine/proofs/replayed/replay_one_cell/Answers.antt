@@ -1,9 +1,9 @@
 use Rattle.std.proofs.Common.{sym, subst}
-use Rattle.gp_machine.specs.State.{code_of}
-use Rattle.gp_machine.specs.Run.{IsLegal}
+use Rattle.gp_journal.specs.State.{code_of}
+use Rattle.gp_journal.specs.Run.{IsLegal}
 use Rattle.gp_machine.specs.Replayed.{ArePointsOf}
-use Rattle.gp_machine.specs.Worked.{deadlocked, one_cell}
-use Rattle.gp_machine.proofs.Journals.{deadlocks}
+use Rattle.gp_journal.specs.Worked.{deadlocked, one_cell}
+use Rattle.gp_journal.proofs.Journals.{deadlocks}
 use Rattle.gp_machine.proofs.Handed.{one_cell_range}
 use Rattle.gp_machine.proofs.replayed.replay_one_cell.Goals as goal
 

@@ -1,9 +1,9 @@
 use Rattle.std.proofs.Common.{sym, subst}
-use Rattle.gp_machine.specs.State.{code_of}
-use Rattle.gp_machine.specs.Run.{IsLegal}
+use Rattle.gp_journal.specs.State.{code_of}
+use Rattle.gp_journal.specs.Run.{IsLegal}
 use Rattle.gp_machine.specs.Replayed.{ArePointsOf}
-use Rattle.gp_machine.specs.Worked.{pair, pair_settings}
-use Rattle.gp_machine.proofs.Journals.{room_for_two}
+use Rattle.gp_journal.specs.Worked.{pair, pair_settings}
+use Rattle.gp_journal.proofs.Journals.{room_for_two}
 use Rattle.gp_machine.proofs.Handed.{profiled_range}
 use Rattle.gp_machine.proofs.replayed.replay_profiled.Goals as goal
 

@@ -1,4 +1,4 @@
-use Rattle.gp_machine.specs.Worked.{pair, pair_settings}
+use Rattle.gp_journal.specs.Worked.{pair, pair_settings}
 use Rattle.gp_machine.proofs.replayed.replay_refused.Given as goal
 
 abbrev pub ghosts-run : goal.ghosts-run

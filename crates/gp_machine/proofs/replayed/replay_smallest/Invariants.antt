@@ -1,4 +1,4 @@
-use Rattle.gp_machine.specs.Worked.{smallest, smallest_settings}
+use Rattle.gp_journal.specs.Worked.{smallest, smallest_settings}
 use Rattle.gp_machine.proofs.replayed.replay_smallest.Given as goal
 
 abbrev pub ghosts-run : goal.ghosts-run

@@ -1,4 +1,4 @@
-use Rattle.gp_machine.specs.Worked.{six, ticking}
+use Rattle.gp_journal.specs.Worked.{six, ticking}
 use Rattle.gp_machine.proofs.replayed.replay_tick.Given as goal
 
 abbrev pub ghosts-run : goal.ghosts-run

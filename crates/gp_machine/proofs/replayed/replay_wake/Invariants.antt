@@ -1,4 +1,4 @@
-use Rattle.gp_machine.specs.Worked.{wake, wake_settings}
+use Rattle.gp_journal.specs.Worked.{wake, wake_settings}
 use Rattle.gp_machine.proofs.replayed.replay_wake.Given as goal
 
 abbrev pub ghosts-run : goal.ghosts-run

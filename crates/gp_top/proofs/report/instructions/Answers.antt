@@ -1,7 +1,7 @@
 use Rattle.std.proofs.Common.{◌++◌, ◌∷◌, [], sym, ap, ◌∙◌, take, map, arith}
 use Rattle.std.proofs.lemmas.List.{take_more, get_or-map, take_all, length-map}
-use Rattle.gp_machine.specs.declared.goroutine.Worker.{Worker}
-use Rattle.gp_machine.specs.declared.settings.Settings.{Settings}
+use Rattle.gp_journal.specs.declared.goroutine.Worker.{Worker}
+use Rattle.gp_journal.specs.declared.settings.Settings.{Settings}
 use Rattle.gp_machine.specs.State.{code_of, resting}
 use Rattle.gp_machine.specs.Run.{last}
 use Rattle.gp_top.proofs.Reporting.{number_of_workers}

@@ -1,6 +1,6 @@
 -- The instructions so far are those of the first workers.
 use Rattle.std.proofs.Common.{◌≡◌, ◌≤◌, take, map}
-use Rattle.gp_machine.specs.declared.goroutine.Worker.{Worker}
+use Rattle.gp_journal.specs.declared.goroutine.Worker.{Worker}
 use Rattle.gp_machine.specs.State.{code_of}
 use Rattle.gp_machine.specs.Run.{last}
 use Rattle.gp_top.proofs.report.instructions.Given as goal

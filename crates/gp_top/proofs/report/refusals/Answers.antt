@@ -1,6 +1,6 @@
 use Rattle.std.proofs.Common.{◌++◌, ◌∷◌, [], sym, ap, ◌∙◌, take, get_or, append-nil}
 use Rattle.std.proofs.lemmas.List.{take_more}
-use Rattle.gp_machine.specs.declared.entry.Entry.TheVariants.{Start}
+use Rattle.gp_journal.specs.declared.entry.Entry.TheVariants.{Start}
 use Rattle.gp_top.specs.Report.{refusals as refused_of}
 use Rattle.gp_top.proofs.Reporting.{refusals_more, none_refused}
 use Rattle.gp_top.proofs.report.refusals.Goals as goal

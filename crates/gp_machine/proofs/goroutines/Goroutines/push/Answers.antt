@@ -1,8 +1,8 @@
 use Rattle.std.proofs.Common.{◌≡◌, ◌<◌, ◌++◌, ◌∷◌, [], List, length, sym, ap, subst, arith, rules}
 use Rattle.std.specs.Vec.{vec_capacity}
 use Rattle.std.proofs.lemmas.List.{length_push}
-use Rattle.gp_machine.specs.declared.goroutine.Goroutine.{Goroutine}
-use Rattle.gp_machine.specs.State.{is_runnable, is_running, is_live, is_behind}
+use Rattle.gp_journal.specs.declared.goroutine.Goroutine.{Goroutine}
+use Rattle.gp_journal.specs.State.{is_runnable, is_running, is_live, is_behind}
 use Rattle.gp_machine.specs.Crowd.{Crowd, AreCounted, is_settled}
 use Rattle.gp_machine.proofs.Marked.{number_push, AreMarked, marked_push}
 use Rattle.gp_machine.proofs.goroutines.Goroutines.push.Goals as goal

@@ -1,5 +1,5 @@
 use Rattle.std.proofs.Common.{◌∙◌, refl, ap}
-use Rattle.gp_machine.specs.State.{nobody, is_behind}
+use Rattle.gp_journal.specs.State.{nobody, is_behind}
 use Rattle.gp_machine.specs.Crowd.{Crowd, first_behind}
 use Rattle.gp_machine.proofs.Marked.{same_position}
 use Rattle.gp_machine.proofs.goroutines.Goroutines.unrecorded.Goals as goal

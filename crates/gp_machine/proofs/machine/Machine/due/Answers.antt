@@ -1,5 +1,5 @@
-use Rattle.gp_machine.specs.State.{code_of}
-use Rattle.gp_machine.proofs.Totals.{kept_at}
+use Rattle.gp_journal.specs.State.{code_of}
+use Rattle.gp_journal.proofs.Lemmas.{kept_at}
 use Rattle.gp_machine.proofs.machine.Machine.due.Goals as goal
 
 pub due-requires-clause-slice : goal.due-requires-clause-slice

@@ -1,6 +1,6 @@
 use Rattle.std.proofs.Common.{Some, sym, ap, ◌∙◌, arith}
-use Rattle.gp_machine.specs.State.{code_of}
-use Rattle.gp_machine.proofs.Reached.{runs_there, runner_waits_nowhere, has_come, clock_fits}
+use Rattle.gp_journal.specs.State.{code_of}
+use Rattle.gp_journal.proofs.Lemmas.{runs_there, runner_waits_nowhere, has_come, clock_fits}
 use Rattle.gp_machine.proofs.Acting.{can_count, send_there, recv_there, lock_there, unlock_there, send_ready, recv_ready, lock_ready, unlock_ready, next_absent, acts_send, acts_recv, acts_lock, acts_unlock, acts_spawn, answers_send, answers_recv, answers_lock, answers_unlock, answers_spawn}
 use Rattle.gp_machine.proofs.present.Present.acts.Goals as goal
 

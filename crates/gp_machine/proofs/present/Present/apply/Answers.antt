@@ -1,7 +1,6 @@
 use Rattle.std.proofs.Common.{ap, ◌∙◌, arith}
-use Rattle.gp_machine.specs.State.{code_of, State}
-use Rattle.gp_machine.proofs.Reached.{is_whole}
-use Rattle.gp_machine.proofs.Lengths.{effect_entries, counted_after}
+use Rattle.gp_journal.specs.State.{code_of, State}
+use Rattle.gp_journal.proofs.Lemmas.{is_whole, effect_entries, counted_after}
 use Rattle.gp_machine.proofs.present.Present.apply.Goals as goal
 
 pub counts-requires : goal.counts-requires

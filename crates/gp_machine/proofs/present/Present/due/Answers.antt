@@ -1,9 +1,9 @@
 use Rattle.std.proofs.Common.{◌≡◌, ◌∙◌, sym, ap, arith, eq-eqb}
 use Rattle.std.proofs.lemmas.Bool.{both_ways, or_left, or_right}
-use Rattle.gp_machine.specs.declared.goroutine.Worker.{Worker}
-use Rattle.gp_machine.specs.Settings.{quantum}
-use Rattle.gp_machine.specs.State.{code_of, goroutine, trace_of, worker}
-use Rattle.gp_machine.proofs.Going.{GoesOn}
+use Rattle.gp_journal.specs.declared.goroutine.Worker.{Worker}
+use Rattle.gp_journal.specs.Settings.{quantum}
+use Rattle.gp_journal.specs.State.{code_of, goroutine, trace_of, worker}
+use Rattle.gp_journal.proofs.Lemmas.{GoesOn}
 use Rattle.gp_machine.proofs.Peeked.{look_of, next_shared, next_local, ahead_local, extent_of, tick_is_due, park_is_due, op_is_due, run_is_due}
 use Rattle.gp_machine.proofs.present.Present.due.Goals as goal
 use Rattle.gp_machine.proofs.present.Present.due.Goals.{then-asked-via-then-asked, then-asked-via-else-asked+then-over, then-asked-via-else-asked+else-over+then-worker-eq-QUANTUM, in-Shared, in_default, else-peek-eq0-via-then-peek-eq0+else-matches, else-peek-eq0-via-else-peek-eq0}

@@ -1,7 +1,7 @@
 use Rattle.std.proofs.Common.{◌≡◌, ◌≤◌, ◌∙◌, arith, false, ap, subst, count_by, ℕ}
 use Rattle.std.specs.List.{list_any}
 use Rattle.std.proofs.lemmas.Grind.{common_steps}
-use Rattle.gp_machine.specs.State.{State, is_runnable}
+use Rattle.gp_journal.specs.State.{State, is_runnable}
 use Rattle.gp_machine.proofs.Judged.{any_none}
 use Rattle.gp_machine.proofs.present.Present.ended.Goals as goal
 

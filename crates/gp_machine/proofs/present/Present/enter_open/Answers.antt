@@ -1,6 +1,5 @@
-use Rattle.gp_machine.specs.State.{code_of}
-use Rattle.gp_machine.proofs.Reached.{some_request, epochs_below}
-use Rattle.gp_machine.proofs.Steps.{none_active}
+use Rattle.gp_journal.specs.State.{code_of}
+use Rattle.gp_journal.proofs.Lemmas.{some_request, epochs_below, none_active}
 use Rattle.gp_machine.proofs.present.Present.enter_open.Goals as goal
 
 pub serves-requires : goal.serves-requires

@@ -1,5 +1,5 @@
-use Rattle.gp_machine.specs.State.{code_of}
-use Rattle.gp_machine.proofs.Reached.{runs_there, runner_absent}
+use Rattle.gp_journal.specs.State.{code_of}
+use Rattle.gp_journal.proofs.Lemmas.{runs_there, runner_absent}
 use Rattle.gp_machine.proofs.present.Present.enter_park.Goals as goal
 
 pub parks-requires-clause-worker : goal.parks-requires-clause-worker

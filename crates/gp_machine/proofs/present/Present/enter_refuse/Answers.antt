@@ -1,4 +1,4 @@
-use Rattle.gp_machine.proofs.Reached.{some_request}
+use Rattle.gp_journal.proofs.Lemmas.{some_request}
 use Rattle.gp_machine.proofs.present.Present.enter_refuse.Goals as goal
 
 pub serves-requires : goal.serves-requires

@@ -1,8 +1,7 @@
 use Rattle.std.proofs.Common.{arith}
-use Rattle.gp_machine.specs.State.{code_of}
-use Rattle.gp_machine.proofs.Reached.{runs_there}
+use Rattle.gp_journal.specs.State.{code_of}
+use Rattle.gp_journal.proofs.Lemmas.{runs_there, run_extent}
 use Rattle.gp_machine.proofs.Acting.{can_count}
-use Rattle.gp_machine.proofs.Going.{run_extent}
 use Rattle.gp_machine.proofs.present.Present.enter_run.Goals as goal
 
 pub passes-requires-clause-worker : goal.passes-requires-clause-worker

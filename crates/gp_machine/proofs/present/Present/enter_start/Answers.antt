@@ -1,5 +1,5 @@
-use Rattle.gp_machine.specs.State.{code_of}
-use Rattle.gp_machine.proofs.Reached.{idle_within, runnable_born, born_cell, runnable_once}
+use Rattle.gp_journal.specs.State.{code_of}
+use Rattle.gp_journal.proofs.Lemmas.{idle_within, runnable_born, born_cell, runnable_once}
 use Rattle.gp_machine.proofs.present.Present.enter_start.Goals as goal
 
 pub starts-requires-clause-worker : goal.starts-requires-clause-worker

@@ -1,5 +1,5 @@
-use Rattle.gp_machine.specs.State.{code_of}
-use Rattle.gp_machine.proofs.Reached.{runs_there}
+use Rattle.gp_journal.specs.State.{code_of}
+use Rattle.gp_journal.proofs.Lemmas.{runs_there}
 use Rattle.gp_machine.proofs.present.Present.enter_tick.Goals as goal
 
 pub ticks-requires : goal.ticks-requires

@@ -1,5 +1,5 @@
 use Rattle.std.proofs.Common.{◌≡◌, slice_get, None, Some, sym, ap, ◌∙◌}
-use Rattle.gp_machine.specs.declared.settings.Settings.{Settings}
+use Rattle.gp_journal.specs.declared.settings.Settings.{Settings}
 use Rattle.gp_sim.proofs.Generated.{picked, drawn}
 use Rattle.gp_sim.proofs.numbers.Numbers.next.Goals as goal
 

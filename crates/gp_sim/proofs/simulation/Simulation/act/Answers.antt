@@ -3,7 +3,7 @@ use Rattle.gp_isa.specs.InLimits.{AreInLimits}
 use Rattle.gp_machine.specs.State.{code_of}
 use Rattle.gp_machine.specs.May.{May}
 use Rattle.gp_machine.specs.Run.{last}
-use Rattle.gp_machine.specs.declared.entry.Entry.TheVariants as entry
+use Rattle.gp_journal.specs.declared.entry.Entry.TheVariants as entry
 use Rattle.gp_sim.specs.Simulation.{SoFar}
 use Rattle.gp_sim.proofs.Stepping.{by_entry, has_body, runner_live, op_at_shared, point_is, may_bear, bodies_follow}
 use Rattle.gp_sim.proofs.simulation.Simulation.act.Goals as goal

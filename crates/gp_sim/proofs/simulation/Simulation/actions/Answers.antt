@@ -1,5 +1,5 @@
 use Rattle.std.proofs.Common.{◌+◌, ◌-◌, ◌++◌, [], sym, ap, ◌∙◌, arith}
-use Rattle.gp_machine.specs.declared.settings.Settings.{Settings}
+use Rattle.gp_journal.specs.declared.settings.Settings.{Settings}
 use Rattle.gp_machine.specs.State.{code_of}
 use Rattle.gp_machine.specs.Run.{last}
 use Rattle.gp_sim.specs.Choice.{actions, actions_from, with_action}

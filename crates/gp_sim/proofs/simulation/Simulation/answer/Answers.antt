@@ -1,6 +1,6 @@
 use Rattle.std.proofs.Common.{arith}
 use Rattle.gp_machine.specs.State.{code_of}
-use Rattle.gp_machine.proofs.Totals.{kept_at}
+use Rattle.gp_journal.proofs.Lemmas.{kept_at}
 use Rattle.gp_sim.proofs.simulation.Simulation.answer.Goals as goal
 
 pub overflow_add-result : goal.overflow_add-result

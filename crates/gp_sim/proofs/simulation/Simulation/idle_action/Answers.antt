@@ -2,7 +2,7 @@ use Rattle.std.proofs.Common.{◌≡◌, true, refl, sym, ◌∙◌, arith, nat_
 use Rattle.std.proofs.lemmas.Bool.{lt-ltb}
 use Rattle.gp_machine.specs.State.{code_of, goroutine}
 use Rattle.gp_machine.specs.Run.{last}
-use Rattle.gp_machine.proofs.Parts.{live_status}
+use Rattle.gp_journal.proofs.Lemmas.{live_status}
 use Rattle.gp_sim.proofs.Enabled.{head_runnable}
 use Rattle.gp_sim.proofs.Acting.{idle_is}
 use Rattle.gp_sim.proofs.simulation.Simulation.idle_action.Goals as goal

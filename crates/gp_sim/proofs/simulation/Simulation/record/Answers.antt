@@ -2,9 +2,9 @@ use Rattle.std.proofs.Common.{◌-◌, length, refl, sym, ap, subst, arith}
 use Rattle.gp_machine.specs.State.{code_of, goroutine}
 use Rattle.gp_machine.specs.May.{May}
 use Rattle.gp_machine.specs.Run.{last}
-use Rattle.gp_machine.specs.declared.entry.Entry.TheVariants as entry
+use Rattle.gp_journal.specs.declared.entry.Entry.TheVariants as entry
 use Rattle.gp_sim.specs.Simulation.{SoFar}
-use Rattle.gp_machine.proofs.Steps.{behind_parts}
+use Rattle.gp_journal.proofs.Lemmas.{behind_parts}
 use Rattle.gp_sim.proofs.Recorded.{some_records}
 use Rattle.gp_sim.proofs.Following.{stays}
 use Rattle.gp_sim.proofs.Stepping.{by_entry, has_body, row_is, with_row_is}

@@ -2,7 +2,7 @@ use Rattle.std.proofs.Common.{refl, sym, subst}
 use Rattle.gp_machine.specs.State.{code_of}
 use Rattle.gp_machine.specs.May.{May}
 use Rattle.gp_machine.specs.Run.{last}
-use Rattle.gp_machine.specs.declared.entry.Entry.TheVariants as entry
+use Rattle.gp_journal.specs.declared.entry.Entry.TheVariants as entry
 use Rattle.gp_sim.specs.Simulation.{SoFar}
 use Rattle.gp_sim.proofs.Stepping.{by_entry, has_body, runner_live, run_ahead}
 use Rattle.gp_sim.proofs.Following.{follows_run}

@@ -2,9 +2,7 @@ use Rattle.std.proofs.Common.{refl, sym, ◌∙◌, subst, arith}
 use Rattle.gp_machine.specs.State.{code_of, goroutine}
 use Rattle.gp_machine.specs.Run.{last}
 use Rattle.gp_machine.specs.Present.{IsPeekAt}
-use Rattle.gp_machine.proofs.Reached.{runs_there}
-use Rattle.gp_machine.proofs.Parts.{live_status}
-use Rattle.gp_machine.proofs.Whole.{some_same}
+use Rattle.gp_journal.proofs.Lemmas.{runs_there, live_status, some_same}
 use Rattle.gp_sim.proofs.Acting.{peek_is}
 use Rattle.gp_sim.proofs.simulation.Simulation.worker_action.Goals as goal
 

@@ -1,0 +1,17 @@
+pub mod Settings
+pub mod State
+pub mod Due
+pub mod May
+pub mod Effect
+pub mod Answer
+pub mod Run
+pub mod Frozen
+pub mod Waiting
+pub mod Standing
+pub mod Actors
+pub mod Reached
+pub mod JournalLaw
+pub mod RunLaws
+pub mod NumberLaws
+pub mod Worked
+pub mod Named

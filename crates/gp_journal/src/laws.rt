@@ -1,0 +1,49 @@
+ghost use Rattle.gp_journal.specs.State.{code_of};
+ghost use Rattle.gp_journal.specs.JournalLaw.{EpochsHold, UnrecordedStand, RowsAreFrozen};
+ghost use Rattle.gp_journal.specs.RunLaws.{PrefixesAreLegal, BornInOrder, StatusesMatchWorkers, QueueHoldsRunnable, EachWaitsOnce, WaitListsTellClocks, RefuseLeavesAll, RunsEndOneWay};
+ghost use Rattle.gp_journal.specs.NumberLaws.{EntriesAreCounted, NumbersHold, EntriesAreBounded, ClocksAreBelow, EpochsAreOrdered};
+ghost use Rattle.gp_journal.specs.Worked.{SmallestProgram, smallest, WokenBetween, wake, RoomForTwo, pair, ContendedMutex, contended, Deadlocks, deadlocked, FaultOfUnlock, faulty, Ticks, six, FullJournal, long};
+
+/// The journal law, of every legal journal of every program: what epochs say at each step, that goroutines which
+/// have still to be recorded stand where they stood as the profile was opened, a wake included, and that the rows
+/// taken at the Record entries are the frozen ones.
+pub fn law_journal()
+    ensures epochs { EpochsHold }
+    ensures unrecorded { UnrecordedStand }
+    ensures rows { RowsAreFrozen }
+{}
+
+/// Laws of legal journals: prefixes, births in order, on which worker a goroutine runs, who stands in the queue, waits
+/// and the clocks at which they began, what a refused profile leaves, and how runs end.
+pub fn law_runs()
+    ensures prefixes { PrefixesAreLegal }
+    ensures births { BornInOrder }
+    ensures workers { StatusesMatchWorkers }
+    ensures queue { QueueHoldsRunnable }
+    ensures waits { EachWaitsOnce }
+    ensures clocks { WaitListsTellClocks }
+    ensures refused { RefuseLeavesAll }
+    ensures ends { RunsEndOneWay }
+{}
+
+/// Bounds on the numbers of legal journals: entries, clock, slices, births, epochs and the clocks of goroutines.
+pub fn law_numbers()
+    ensures counted { EntriesAreCounted }
+    ensures numbers { NumbersHold }
+    ensures entries { EntriesAreBounded }
+    ensures come { ClocksAreBelow }
+    ensures ordered { EpochsAreOrdered }
+{}
+
+/// Worked journals of small programs: legal ones, with what the last state tells and the rows frozen at an Open, and
+/// ones that aren't legal any more with one entry put at their end.
+pub fn law_worked()
+    ensures smallest { SmallestProgram (code_of smallest) }
+    ensures woken { WokenBetween (code_of wake) }
+    ensures room { RoomForTwo (code_of pair) }
+    ensures contended { ContendedMutex (code_of contended) }
+    ensures deadlock { Deadlocks (code_of deadlocked) }
+    ensures fault { FaultOfUnlock (code_of faulty) }
+    ensures ticks { Ticks (code_of six) }
+    ensures full { FullJournal (code_of long) }
+{}
