@@ -6,7 +6,7 @@ use Rattle.gp_build.specs.declared.samples.Counted.{Counted}
 use Rattle.gp_build.specs.FirstNeed.{first_seen}
 use Rattle.gp_build.specs.Shown.{Shown, same_shown}
 use Rattle.gp_build.specs.Samples.{counted, entry_of}
-use Rattle.gp_build.specs.Alike.{same_shown_equiv}
+use Rattle.gp_build.specs.laws.Alike.{same_shown_equiv}
 use Rattle.gp_build.proofs.Tally.{tally, counts_at}
 
 as_samples : (all keys : List Shown) → map entry_of (counts_at same_shown_equiv all keys) ≡ map (λ shown. record { shown = shown; count = count_by (same_shown shown) all }) keys
@@ -22,4 +22,5 @@ counted-tally all = as_samples all (first_seen same_shown all)
 pub counted-small : (bound : ℕ) (all : List Shown) → length all < bound → All (λ (sample : Counted). sample.count < bound) (counted all)
 unfolding counted
 counted-small bound all few =
-    All-map (λ (sample : Counted). sample.count < bound) (λ shown. record { shown = shown; count = count_by (same_shown shown) all }) (first_seen same_shown all) (λ k d within. omega (arith, few, count_by-le-length))
+    All-map (λ (sample : Counted). sample.count < bound) (λ shown. record { shown = shown; count = count_by (same_shown shown) all }) (first_seen same_shown all)
+    (λ k d within. omega (arith, few, count_by-le-length))

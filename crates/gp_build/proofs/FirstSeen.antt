@@ -25,29 +25,34 @@ module _ {X : Type 0} {same : X → X → Bool} (laws : IsEquivalence same) wher
   unlike : (x y z : X) → same x y ≡ false → not (same y z) ≡ false → same x z ≡ false
   unlike x y z apart alike = laws.symm x z ∙ sym (laws.congr y z x (not_true (same y z) alike)) ∙ laws.symm y x ∙ apart
 
+  -- what of a list isn't the same as y
+  abbrev others : X → List X → List X
+  others y seen = filter (λ other. not (same y other)) seen
+
   -- One thing more is inserted into what is left of a list behind y.
-  behind : (y x : X) (seen : List X) → y ∷ filter (λ other. not (same y other)) (insert_key same seen x) ≡ insert_key same (y ∷ filter (λ other. not (same y other)) seen) x
+  behind : (y x : X) (seen : List X) → y ∷ others y (insert_key same seen x) ≡ insert_key same (y ∷ others y seen) x
   behind y x seen = by (same x y) refl
     where
-      apart : X → Bool
-      apart other = not (same y other)
-
-      kept : (c : Bool) → not (same y x) ≡ false → y ∷ filter (λ other. not (same y other)) (if c then seen else seen ++ x ∷ []) ≡ y ∷ filter (λ other. not (same y other)) seen
+      kept : (c : Bool) → not (same y x) ≡ false → y ∷ others y (if c then seen else seen ++ x ∷ []) ≡ y ∷ others y seen
       kept true e = refl
       kept false e = ap (λ (l : List X). y ∷ l) (filter_skip (λ other. not (same y other)) seen x e)
 
-      added : (c : Bool) → not (same y x) ≡ true → y ∷ filter (λ other. not (same y other)) (if c then seen else seen ++ x ∷ []) ≡ (if c then y ∷ filter (λ other. not (same y other)) seen else (y ∷ filter (λ other. not (same y other)) seen) ++ x ∷ [])
+      added : (c : Bool) → not (same y x) ≡ true
+          → y ∷ others y (if c then seen else seen ++ x ∷ []) ≡ (if c then y ∷ others y seen else (y ∷ others y seen) ++ x ∷ [])
       added true e = refl
       added false e = ap (λ (l : List X). y ∷ l) (filter_keep (λ other. not (same y other)) seen x e)
 
-      by : (b : Bool) → same x y ≡ b → y ∷ filter (λ other. not (same y other)) (insert_key same seen x) ≡ insert_key same (y ∷ filter (λ other. not (same y other)) seen) x
-      by true e =
-          kept (list_any (same x) seen) (ap not (laws.symm y x ∙ e))
-          ∙ sym (ap (λ (b : Bool). if b || list_any (same x) (filter (λ other. not (same y other)) seen) then y ∷ filter (λ other. not (same y other)) seen else (y ∷ filter (λ other. not (same y other)) seen) ++ x ∷ []) e)
+      -- what insertion makes of the list behind y, by whether x is the same as y
+      inserted : Bool → List X
+      inserted b = if b || list_any (same x) (others y seen) then y ∷ others y seen else (y ∷ others y seen) ++ x ∷ []
+
+      by : (b : Bool) → same x y ≡ b → y ∷ others y (insert_key same seen x) ≡ insert_key same (y ∷ others y seen) x
+      by true e = kept (list_any (same x) seen) (ap not (laws.symm y x ∙ e)) ∙ sym (ap inserted e)
       by false e =
           added (list_any (same x) seen) (ap not (laws.symm y x ∙ e))
-          ∙ ap (λ (b : Bool). if b then y ∷ filter (λ other. not (same y other)) seen else (y ∷ filter (λ other. not (same y other)) seen) ++ x ∷ []) (sym (any-filter (same x) (λ other. not (same y other)) (λ z. unlike x y z e) seen))
-          ∙ sym (ap (λ (b : Bool). if b || list_any (same x) (filter (λ other. not (same y other)) seen) then y ∷ filter (λ other. not (same y other)) seen else (y ∷ filter (λ other. not (same y other)) seen) ++ x ∷ []) e)
+          ∙ ap (λ (b : Bool). if b then y ∷ others y seen else (y ∷ others y seen) ++ x ∷ [])
+          (sym (any-filter (same x) (λ other. not (same y other)) (λ z. unlike x y z e) seen))
+          ∙ sym (ap inserted e)
 
   -- One thing more is seen.
   pub first_seen-push : (xs : List X) (x : X) → first_seen same (xs ++ x ∷ []) ≡ insert_key same (first_seen same xs) x
@@ -63,6 +68,12 @@ module _ {X : Type 0} {same : X → X → Bool} (laws : IsEquivalence same) wher
       ap (λ (l : List X). insert_all same l ys) (sym (first_seen-push xs y))
       ∙ first_seen-append (xs ++ y ∷ []) ys
       ∙ ap (first_seen same) (append_assoc xs (y ∷ []) ys)
+
+  -- Where a set holds what was seen first, it does so after further insertions.
+  pub seen_more : (old new xs ys : List X) → old ≡ first_seen same xs → new ≡ insert_all same old ys
+      → new ≡ first_seen same (xs ++ ys)
+  seen_more old new xs ys before after =
+      after ∙ ap (λ (l : List X). insert_all same l ys) before ∙ first_seen-append xs ys
 
   -- All that is inserted into an empty set is what was seen first.
   pub insert_all-nil : (xs : List X) → insert_all same [] xs ≡ first_seen same xs

@@ -3,7 +3,5 @@ pub mod Tally
 pub mod Order
 pub mod Comparing
 pub mod Counts
-pub mod StringTable
 pub mod Steps
 pub mod Total
-pub mod Assembly

@@ -175,7 +175,9 @@ module _ {X : Type 0} {lt : X → X → Bool} (order : IsStrictWeakOrder lt) whe
           filter-none v y (x ∷ ys) k ∙ filter-none v x ys h
           ∙ sym (filter-none v x (y ∷ ys) h ∙ filter-none v y ys k)
 
-      more : (c : Bool) → filter (ties lt v) (put lt x ys) ≡ filter (ties lt v) (x ∷ ys) → (if c then y ∷ filter (ties lt v) (put lt x ys) else filter (ties lt v) (put lt x ys)) ≡ (if c then y ∷ filter (ties lt v) (x ∷ ys) else filter (ties lt v) (x ∷ ys))
+      more : (c : Bool) → filter (ties lt v) (put lt x ys) ≡ filter (ties lt v) (x ∷ ys)
+          → (if c then y ∷ filter (ties lt v) (put lt x ys) else filter (ties lt v) (put lt x ys))
+          ≡ (if c then y ∷ filter (ties lt v) (x ∷ ys) else filter (ties lt v) (x ∷ ys))
       more true rest = ap (λ (l : List X). y ∷ l) rest
       more false rest = rest
 
@@ -188,7 +190,9 @@ module _ {X : Type 0} {lt : X → X → Bool} (order : IsStrictWeakOrder lt) whe
   stable-in_order [] v = refl
   stable-in_order (x ∷ xs) v = stable-put v x (in_order lt xs) ∙ more (ties lt v x) (stable-in_order xs v)
     where
-      more : (c : Bool) → filter (ties lt v) (in_order lt xs) ≡ filter (ties lt v) xs → (if c then x ∷ filter (ties lt v) (in_order lt xs) else filter (ties lt v) (in_order lt xs)) ≡ (if c then x ∷ filter (ties lt v) xs else filter (ties lt v) xs)
+      more : (c : Bool) → filter (ties lt v) (in_order lt xs) ≡ filter (ties lt v) xs
+          → (if c then x ∷ filter (ties lt v) (in_order lt xs) else filter (ties lt v) (in_order lt xs))
+          ≡ (if c then x ∷ filter (ties lt v) xs else filter (ties lt v) xs)
       more true rest = ap (λ (l : List X). x ∷ l) rest
       more false rest = rest
 

@@ -47,7 +47,8 @@ passing : {X : Type 0} (test : X → Bool) (xs : List X) → AllByRecursion (λ 
 passing test [] = tt
 passing {X} test (x ∷ xs) = by (test x) refl (passing test xs)
   where
-    by : (b : Bool) → test x ≡ b → AllByRecursion (λ y. test y ≡ false) (filter (λ y. not (test y)) xs) → AllByRecursion (λ y. test y ≡ false) (if not b then x ∷ filter (λ y. not (test y)) xs else filter (λ y. not (test y)) xs)
+    by : (b : Bool) → test x ≡ b → AllByRecursion (λ y. test y ≡ false) (filter (λ y. not (test y)) xs)
+        → AllByRecursion (λ y. test y ≡ false) (if not b then x ∷ filter (λ y. not (test y)) xs else filter (λ y. not (test y)) xs)
     by true e rest = rest
     by false e rest = (e, rest)
 

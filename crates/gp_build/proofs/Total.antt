@@ -5,7 +5,8 @@ use Rattle.gp_isa.specs.declared.frame.Frame.{Frame}
 use Rattle.gp_isa.specs.declared.parts.Pair.{Pair}
 use Rattle.gp_isa.specs.declared.parts.Parts.{Parts}
 use Rattle.gp_build.specs.declared.samples.Counted.{Counted}
-use Rattle.gp_build.specs.Shown.{Shown, function_of, frame_cmp, pair_cmp, shown_cmp}
+use Rattle.gp_build.specs.Shown.{Shown, frame_cmp, pair_cmp, shown_cmp}
+use Rattle.gp_build.specs.Site.{function_of}
 use Rattle.gp_build.specs.Samples.{counted_cmp}
 
 frame_total : (parts : Parts) → IsTotalOrder (frame_cmp parts)

@@ -1,6 +1,12 @@
+-- Any profile of samples, in the order in which a reader needs it.
 pub mod FirstNeed
+pub mod Site
+pub mod Numbers
+pub mod Message
+-- The goroutine profile: its samples, and the profile of these.
 pub mod Shown
 pub mod Samples
-pub mod Numbers
-pub mod Alike
 pub mod Profile
+-- What is kept in between, and proofs that members of impls cite. No public contract rests on either.
+pub mod kept
+pub mod laws

@@ -1,4 +1,4 @@
--- The samples of records: one for each stack with labels that records show, its value the number of those records.
+-- What records show, counted: each stack with labels once, with the number of records that show it, in order.
 use Rattle.std.specs.Prelude.{ℕ, Bool, List, [], ◌∷◌, map, count_by, if◌then◌else◌}
 use Rattle.std.specs.Ordering.{nat_cmp, ordering_then, is_lt}
 use Rattle.std.specs.declared.cmp.Ordering.{Ordering}
@@ -31,6 +31,6 @@ module _ {X : Type 0} (before : X → X → Bool) where
   in_order [] = []
   in_order (x ∷ xs) = put x (in_order xs)
 
--- the samples of records, in their order
-unfoldable pub samples_of : Parts → List Record → List Counted
-samples_of parts rows = in_order (λ a b. is_lt (counted_cmp parts a b)) (counted (map (shown_in parts) rows))
+-- what records show, counted, in order
+unfoldable pub counted_in : Parts → List Record → List Counted
+counted_in parts rows = in_order (λ a b. is_lt (counted_cmp parts a b)) (counted (map (shown_in parts) rows))

@@ -1,30 +1,24 @@
 -- What a record shows of its goroutine, when two records show the same, and in which order that stands.
-use Rattle.std.specs.Prelude.{◌==◌, ◌&&◌, ℕ, zero, suc, Bool, List, [], slice_get, unwrap_or}
-use Rattle.std.specs.Option.{option_map_or}
+use Rattle.std.specs.Prelude.{◌==◌, ◌&&◌, ℕ, Bool, List}
 use Rattle.std.specs.Str.{bytes_eq}
 use Rattle.std.specs.Ordering.{nat_cmp, ordering_then}
 use Rattle.std.specs.Cmp.Lexicographic.{slice_cmp, pointwise}
 use Rattle.std.specs.declared.cmp.Ordering.{Ordering}
 use Rattle.gp_isa.specs.declared.frame.Frame.{Frame}
 use Rattle.gp_isa.specs.declared.parts.Parts.{Parts}
-use Rattle.gp_isa.specs.declared.parts.Function.{Function}
-use Rattle.gp_isa.specs.declared.parts.LabelSet.{LabelSet}
 use Rattle.gp_isa.specs.declared.parts.Pair.{Pair}
 use Rattle.gp_stack.specs.declared.record.Record.{Record}
+use Rattle.gp_build.specs.Site.{function_of, labels_of}
 
--- a stack, the leaf first, and labels
+-- a stack, the leaf first, and the labels of a label set
 pub record Shown : Type 0 where
   pub stack : List Frame
+  pub set : ℕ
   pub labels : List Pair
-
--- Label sets are counted from 1. Set 0 is the empty one.
-abbrev pub labels_of : Parts → ℕ → List Pair
-labels_of parts zero = []
-labels_of parts (suc s) = option_map_or (λ (set : LabelSet). set.pairs) (slice_get parts.labels s) []
 
 -- what a record shows
 abbrev pub shown_in : Parts → Record → Shown
-shown_in parts row = record { stack = row.stack; labels = labels_of parts row.set }
+shown_in parts row = record { stack = row.stack; set = row.set; labels = labels_of parts row.set }
 
 abbrev pub same_frame : Frame → Frame → Bool
 same_frame a b = (a.function == b.function) && (a.line == b.line)
@@ -32,16 +26,9 @@ same_frame a b = (a.function == b.function) && (a.line == b.line)
 abbrev pub same_pair : Pair → Pair → Bool
 same_pair a b = bytes_eq a.key b.key && bytes_eq a.value b.value
 
--- frame by frame and pair by pair
+-- frame by frame and pair by pair, whatever the numbers of the label sets
 abbrev pub same_shown : Shown → Shown → Bool
 same_shown a b = pointwise same_frame a.stack b.stack && pointwise same_pair a.labels b.labels
-
--- a function that isn't there
-abbrev pub nothing : Function
-nothing = record { name = []; line = 0; end = 0; body = [] }
-
-abbrev pub function_of : Parts → ℕ → Function
-function_of parts f = unwrap_or (slice_get parts.functions f) nothing
 
 -- Frames are ordered by the bytes of the function's name, then by line.
 abbrev pub frame_cmp : Parts → Frame → Frame → Ordering

@@ -1,27 +1,18 @@
 ghost use Rattle.std.specs.Prelude.{◌≡◌};
 ghost use Rattle.std.specs.Cmp.Lexicographic.{slice_cmp};
-ghost use Rattle.gp_build.specs.Shown.{function_of, frame_cmp, pair_cmp, shown_cmp};
+ghost use Rattle.gp_build.specs.Shown.{frame_cmp, pair_cmp, shown_cmp};
 ghost use Rattle.gp_build.specs.Samples.{counted_cmp};
 
+use crate::lookup::function_name;
 use crate::samples::Counted;
 use crate::shown::Shown;
 use gp_isa::{Frame, Pair, Parts};
 use std::cmp::Ordering;
 
-/// The name of a function.
-pub(crate) fn name<'a>(parts: &'a Parts, f: u32) -> &'a str
-    ensures { result.now ≡ (function_of parts.now f).name }
-{
-    match parts.functions.get(f as usize) {
-        Some(function) => function.name.as_str(),
-        None => "",
-    }
-}
-
 fn compare_frames(parts: &Parts, a: Frame, b: Frame) -> Ordering
     ensures { result ≡ frame_cmp parts.now a b }
 {
-    match name(parts, a.function).cmp(name(parts, b.function)) {
+    match function_name(parts, a.function).cmp(function_name(parts, b.function)) {
         Ordering::Equal => a.line.cmp(&b.line),
         order => order,
     }

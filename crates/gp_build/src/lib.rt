@@ -1,32 +1,45 @@
-//! Profiles from records: the messages of `profile.proto` as Go's `runtime/pprof` makes them (its `pprof.go` and
+//! Profiles from samples: the messages of `profile.proto` as Go's `runtime/pprof` makes them (its `pprof.go` and
 //! `proto.go`).
 //!
-//! [`goroutine_profile`] goes in three steps. Records are counted: those that show one stack with equal labels make one
-//! sample, whose value is their number (`samples`, over the keys of `shown`). The samples are put in order, falling
-//! value, then stack, then labels (`compare`). Then one walk over the samples in that order, frame by frame from the
-//! leaf, numbers what it meets in the order of first need: texts, from 0, the empty one first; locations, each a line
-//! of a function, and functions, from 1 (`tables`, over the keys of `need` and `place`). All messages name these by
-//! their numbers (`messages`).
+//! There are two layers. [`profile`] makes any profile of a header and a list of samples, each a stack with a label set
+//! and values. Samples stand in the profile as they are given: it neither groups nor orders them, since each profile of
+//! Go's has a rule of its own for that. [`goroutine_profile`] makes the samples of records, and their profile.
 //!
-//! The profile that has to come out is a definition over lists (`specs/Profile.antt`): groups are filters and counts
-//! (`specs/Samples.antt`), an order is insertion one by one, and a number is a place in the list of what was seen first
-//! (`specs/FirstNeed.antt`, `specs/Numbers.antt`). The code has maps in insertion order and one stable sort, so its
-//! time grows with the number of records and frames, and that of the sort besides.
+//! **Any profile.** One walk over the samples, site by site from the leaf, numbers what it meets in the order of first
+//! need: texts, from 0, the empty one first; locations, one for each site, and functions, from 1 (`tables`, over the
+//! keys of `need` and `site`). A site is a line of a function, and that function one of the program or the one that
+//! stands for lost events. All messages name texts, locations and functions by their numbers (`messages`).
+//!
+//! **Goroutines.** Records are counted: those that show one stack with equal labels make one sample, whose value is
+//! their number (`samples`, over the keys of `shown`). The samples are put in order, falling value, then stack, then
+//! labels (`compare`).
+//!
+//! The profile that has to come out is a definition over lists: any profile in `specs/Message.antt`, where a number is a
+//! place in the list of what was seen first (`specs/FirstNeed.antt`, `specs/Numbers.antt`); the goroutine profile in
+//! `specs/Profile.antt`, where groups are filters and counts and an order is insertion one by one
+//! (`specs/Samples.antt`). The code has maps in insertion order and one stable sort, so its time grows with the number of
+//! records and sites, and that of the sort besides.
 //!
 //! The empty text has number 0, which in a label says that there is no text. So the empty value of a label is a text of
 //! its own in the string table, which is empty too.
 #![tactic(auto)]
 
+mod building;
 mod compare;
 mod goroutine;
+mod lookup;
 mod messages;
 mod need;
-mod place;
+mod sample;
 mod samples;
 mod shown;
+mod site;
 mod tables;
 
+pub use building::profile;
 pub use goroutine::goroutine_profile;
+pub use sample::{Header, Kind, Kinds, StackSample};
+pub use site::{Routine, Site, Sites};
 
 #[cfg(test)]
 mod tests;

@@ -1,19 +1,19 @@
-ghost use Rattle.std.specs.Prelude.{◌≡◌, ◌∷◌, [], ◌<◌, ◌^◌, All, map, IfOk};
-ghost use Rattle.gp_build.specs.declared.samples.Counted.{Counted};
-ghost use Rattle.gp_build.specs.Shown.{function_of};
+//! The messages of a profile, which name texts, locations and functions by their numbers.
+
+ghost use Rattle.std.specs.Prelude.{◌≡◌, ◌∷◌, [], map, IfOk};
 ghost use Rattle.gp_build.specs.Numbers as numbers;
 ghost use Rattle.gp_build.specs.Numbers.{string_number, text_of};
-ghost use Rattle.gp_build.specs.Profile.{kind_of, label_of, sample_of, location_of, function_in};
+ghost use Rattle.gp_build.specs.Message.{type_of, period_type_of, label_of, sample_of, location_of, function_in};
 
-use crate::compare::name;
+use crate::lookup::{self, filename, header_line, name};
 use crate::need::Need;
-use crate::place::Place;
-use crate::samples::Counted;
+use crate::sample::{Kind, StackSample};
+use crate::site::{Routine, Site};
 use crate::tables::place;
 use gp_isa::{Memory, Pair, Parts, Sequence, Text};
 use gp_wire::{
     Function, Functions, Label, Labels, Line, Location, Locations, Sample, Samples, Strings,
-    ValueType, Words,
+    ValueType, ValueTypes, Words,
 };
 use indexmap::IndexSet;
 use std::alloc::Global;
@@ -34,13 +34,40 @@ fn number<'a>(strings: &IndexSet<Need<'a>>, need: &Need<'a>) -> i64
     place(strings, need) as i64
 }
 
-/// Goroutines, counted.
-pub(crate) fn kind(strings: &IndexSet<Need>) -> ValueType
-    ensures { result ≡ kind_of strings.now.keys }
+fn kind<'a>(strings: &IndexSet<Need<'a>>, kind: &'a Kind) -> ValueType
+    ensures { result ≡ type_of strings.now.keys kind.now }
 {
     ValueType {
-        kind: number(strings, &Need::text("goroutine")),
-        unit: number(strings, &Need::text("count")),
+        kind: number(strings, &Need::text(kind.name.as_str())),
+        unit: number(strings, &Need::text(kind.unit.as_str())),
+    }
+}
+
+/// The sample types.
+pub(crate) fn kinds<'a>(
+    alloc: Global,
+    strings: &IndexSet<Need<'a>>,
+    kinds: &'a [Kind],
+) -> Result<ValueTypes, Memory>
+    ensures { IfOk result (λ types. types ≡ map (type_of strings.now.keys) kinds.now) }
+{
+    let mut types = Sequence::new(alloc);
+    for item in kinds {
+        types.push(kind(strings, item))?;
+    }
+    Ok(types)
+}
+
+/// The period type.
+pub(crate) fn period_type<'a>(
+    strings: &IndexSet<Need<'a>>,
+    period: &'a Option<Kind>,
+) -> Option<ValueType>
+    ensures { result ≡ period_type_of strings.now.keys period.now }
+{
+    match period {
+        None => None,
+        Some(item) => Some(kind(strings, item)),
     }
 }
 
@@ -70,123 +97,108 @@ fn labels<'a>(
 }
 
 // Ids are counted from 1.
-fn location_id(locations: &IndexSet<Place>, at: &Place) -> u64
-    ensures { result ≡ numbers.location_id locations.now.keys at.now }
+fn location_id(locations: &IndexSet<Site>, site: Site) -> u64
+    ensures { result ≡ numbers.location_id locations.now.keys site }
 {
-    place(locations, at) as u64 + 1
+    place(locations, &site) as u64 + 1
 }
 
-fn function_id(functions: &IndexSet<u32>, f: u32) -> u64
-    ensures { result ≡ numbers.function_id functions.now.keys f }
+fn function_id(functions: &IndexSet<Routine>, routine: Routine) -> u64
+    ensures { result ≡ numbers.function_id functions.now.keys routine }
 {
-    place(functions, &f) as u64 + 1
+    place(functions, &routine) as u64 + 1
 }
 
-fn location_ids(
-    alloc: Global,
-    locations: &IndexSet<Place>,
-    stack: &[gp_isa::Frame],
-) -> Result<Words, Memory>
+fn location_ids(alloc: Global, locations: &IndexSet<Site>, stack: &[Site]) -> Result<Words, Memory>
     ensures { IfOk result (λ ids. ids ≡ map (numbers.location_id locations.now.keys) stack.now) }
 {
     let mut ids = Sequence::new(alloc);
-    for frame in stack {
-        ids.push(location_id(locations, &Place::new(*frame)))?;
+    for site in stack {
+        ids.push(location_id(locations, *site))?;
     }
     Ok(ids)
 }
 
 fn sample<'a>(
     alloc: Global,
+    parts: &'a Parts,
     strings: &IndexSet<Need<'a>>,
-    locations: &IndexSet<Place>,
-    counted: &Counted<'a>,
+    locations: &IndexSet<Site>,
+    sample: &StackSample,
 ) -> Result<Sample, Memory>
-    requires { counted.now.count < 2 ^ 63 }
-    ensures { IfOk result (λ sample. sample ≡ sample_of strings.now.keys locations.now.keys counted.now) }
+    ensures { IfOk result (λ message. message ≡ sample_of parts.now strings.now.keys locations.now.keys sample.now) }
 {
     Ok(Sample {
-        location_ids: location_ids(alloc, locations, counted.shown.stack())?,
-        values: one(alloc, counted.count as i64)?,
-        labels: labels(alloc, strings, counted.shown.labels())?,
+        location_ids: location_ids(alloc, locations, sample.stack.as_slice())?,
+        values: Sequence::from_slice(alloc, sample.values.as_slice())?,
+        labels: labels(alloc, strings, lookup::labels(parts, sample.set))?,
     })
 }
 
 pub(crate) fn samples<'a>(
     alloc: Global,
+    parts: &'a Parts,
     strings: &IndexSet<Need<'a>>,
-    locations: &IndexSet<Place>,
-    counted: &[Counted<'a>],
+    locations: &IndexSet<Site>,
+    samples: &[StackSample],
 ) -> Result<Samples, Memory>
-    requires { All (λ (sample : Counted). sample.count < 2 ^ 63) counted.now }
-    ensures { IfOk result (λ samples. samples ≡ map (sample_of strings.now.keys locations.now.keys) counted.now) }
+    ensures { IfOk result (λ messages. messages ≡ map (sample_of parts.now strings.now.keys locations.now.keys) samples.now) }
 {
-    let mut samples = Sequence::new(alloc);
-    for group in counted {
-        samples.push(sample(alloc, strings, locations, group)?)?;
+    let mut messages = Sequence::new(alloc);
+    for item in samples {
+        messages.push(sample(alloc, parts, strings, locations, item)?)?;
     }
-    Ok(samples)
+    Ok(messages)
 }
 
 fn location(
     alloc: Global,
-    locations: &IndexSet<Place>,
-    functions: &IndexSet<u32>,
-    at: &Place,
+    locations: &IndexSet<Site>,
+    functions: &IndexSet<Routine>,
+    site: Site,
 ) -> Result<Location, Memory>
-    ensures { IfOk result (λ location. location ≡ location_of locations.now.keys functions.now.keys at.now) }
+    ensures { IfOk result (λ location. location ≡ location_of locations.now.keys functions.now.keys site) }
 {
-    let frame = at.frame();
     let line = Line {
-        function_id: function_id(functions, frame.function),
-        line: i64::from(frame.line),
+        function_id: function_id(functions, site.routine),
+        line: i64::from(site.line),
     };
     Ok(Location {
-        id: location_id(locations, at),
+        id: location_id(locations, site),
         lines: one(alloc, line)?,
     })
 }
 
 pub(crate) fn locations(
     alloc: Global,
-    table: &IndexSet<Place>,
-    functions: &IndexSet<u32>,
+    table: &IndexSet<Site>,
+    functions: &IndexSet<Routine>,
 ) -> Result<Locations, Memory>
     ensures { IfOk result (λ locations. locations ≡ map (location_of table.now.keys functions.now.keys) table.now.keys) }
 {
     let mut locations = Sequence::new(alloc);
-    for at in table.as_slice() {
-        locations.push(location(alloc, table, functions, at)?)?;
+    for site in table.as_slice() {
+        locations.push(location(alloc, table, functions, *site)?)?;
     }
     Ok(locations)
-}
-
-// The line of a function's header.
-fn header(parts: &Parts, f: u32) -> u32
-    ensures { result ≡ (function_of parts.now f).line }
-{
-    match parts.functions.get(f as usize) {
-        Some(function) => function.line,
-        None => 0,
-    }
 }
 
 fn function<'a>(
     parts: &'a Parts,
     file: &'a str,
     strings: &IndexSet<Need<'a>>,
-    functions: &IndexSet<u32>,
-    f: u32,
+    functions: &IndexSet<Routine>,
+    routine: Routine,
 ) -> Function
-    ensures { result ≡ function_in parts.now file.now strings.now.keys functions.now.keys f }
+    ensures { result ≡ function_in parts.now file.now strings.now.keys functions.now.keys routine }
 {
-    let name = number(strings, &Need::text(name(parts, f)));
+    let name = number(strings, &Need::text(name(parts, routine)));
     Function {
-        id: function_id(functions, f),
+        id: function_id(functions, routine),
         name,
         system_name: name,
-        filename: number(strings, &Need::text(file)),
-        start_line: i64::from(header(parts, f)),
+        filename: number(strings, &Need::text(filename(file, routine))),
+        start_line: i64::from(header_line(parts, routine)),
     }
 }
 
@@ -195,13 +207,13 @@ pub(crate) fn functions<'a>(
     parts: &'a Parts,
     file: &'a str,
     strings: &IndexSet<Need<'a>>,
-    table: &IndexSet<u32>,
+    table: &IndexSet<Routine>,
 ) -> Result<Functions, Memory>
-    ensures { IfOk result (λ functions. functions ≡ map (function_in parts.now file.now strings.now.keys table.now.keys) table.now.keys) }
+    ensures { IfOk result (λ all. all ≡ map (function_in parts.now file.now strings.now.keys table.now.keys) table.now.keys) }
 {
     let mut functions = Sequence::new(alloc);
-    for f in table.as_slice() {
-        functions.push(function(parts, file, strings, table, *f))?;
+    for routine in table.as_slice() {
+        functions.push(function(parts, file, strings, table, *routine))?;
     }
     Ok(functions)
 }

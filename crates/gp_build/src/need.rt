@@ -2,7 +2,7 @@ ghost use Rattle.std.specs.Prelude.{◌≡◌};
 ghost use Rattle.std.specs.Cmp.{partial_equiv_from_equiv};
 ghost use Rattle.gp_build.specs.Numbers as numbers;
 ghost use Rattle.gp_build.specs.Numbers.{value_need, text_of, same_need};
-ghost use Rattle.gp_build.specs.Alike.{need_input, same_need_equiv, need_input-same};
+ghost use Rattle.gp_build.specs.laws.Alike.{need_input, same_need_equiv, need_input-same};
 
 use std::hash::{Hash, Hasher};
 use std::marker::Model;

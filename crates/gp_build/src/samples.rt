@@ -1,12 +1,17 @@
 ghost use Rattle.std.specs.Prelude.{◌≡◌, ◌+◌, ◌<◌, ◌^◌, All, map, unwrap_or, OnOk, IfOk};
 ghost use Rattle.indexmap.specs.IndexMap.{get, insert_entry};
 ghost use Rattle.gp_build.specs.declared.samples.Counted.{Counted};
+ghost use Rattle.gp_build.specs.Site.{site_of};
 ghost use Rattle.gp_build.specs.Shown.{shown_in, same_shown};
-ghost use Rattle.gp_build.specs.Samples.{entry_of, counted, samples_of};
+ghost use Rattle.gp_build.specs.Samples.{entry_of, counted, counted_in};
+ghost use Rattle.gp_build.specs.Profile.{sample_of_count, goroutine_samples};
 
 use crate::compare::compare;
+use crate::messages::one;
+use crate::sample::StackSample;
 use crate::shown::Shown;
-use gp_isa::{Memory, Parts};
+use crate::site::{Site, Sites};
+use gp_isa::{Frame, Memory, Parts, Sequence};
 use gp_stack::Record;
 use indexmap::IndexMap;
 use std::alloc::Global;
@@ -21,7 +26,8 @@ pub(crate) struct Counted<'a> {
 // One record more shows this.
 fn count<'a>(counts: &mut IndexMap<Shown<'a>, u64>, shown: Shown<'a>) -> Result<(), Memory>
     requires { unwrap_or (get same_shown counts.old shown) 0 + 1 < 2 ^ 64 }
-    ensures { OnOk result (counts.new.entries ≡ insert_entry same_shown counts.old.entries shown.entry (unwrap_or (get same_shown counts.old shown.entry) 0 + 1)) }
+    ensures { let before = unwrap_or (get same_shown counts.old shown.entry) 0 in
+        OnOk result (counts.new.entries ≡ insert_entry same_shown counts.old.entries shown.entry (before + 1)) }
 {
     let before = counts.get(&shown).copied().unwrap_or(0);
     counts.insert(shown, before + 1)?;
@@ -54,16 +60,61 @@ fn list<'a>(alloc: Global, counts: IndexMap<Shown<'a>, u64>) -> Result<Vec<Count
     Ok(samples)
 }
 
-/// The samples of records, in their order.
-pub(crate) fn samples<'a>(
+// What records show, counted, in order.
+fn ordered<'a>(
     alloc: Global,
     parts: &'a Parts,
     records: &'a [Record],
 ) -> Result<Vec<Counted<'a>>, Memory>
-    ensures samples { IfOk result (λ samples. samples.items ≡ samples_of parts.now records.now) }
-    ensures small { IfOk result (λ samples. All (λ (sample : Counted). sample.count < 2 ^ 63) samples.items) }
+    ensures counted { IfOk result (λ all. all.items ≡ counted_in parts.now records.now) }
+    ensures small { IfOk result (λ all. All (λ (counted : Counted). counted.count < 2 ^ 63) all.items) }
 {
-    let mut samples = list(alloc, counts(alloc, parts, records)?)?;
-    samples.sort_by(|a, b| compare(parts, a, b))?;
+    let mut all = list(alloc, counts(alloc, parts, records)?)?;
+    all.sort_by(|a, b| compare(parts, a, b))?;
+    Ok(all)
+}
+
+fn sites(alloc: Global, stack: &[Frame]) -> Result<Sites, Memory>
+    ensures { IfOk result (λ sites. sites ≡ map site_of stack.now) }
+{
+    let mut sites = Sequence::new(alloc);
+    for frame in stack {
+        sites.push(Site::new(*frame))?;
+    }
+    Ok(sites)
+}
+
+fn sample(alloc: Global, counted: &Counted) -> Result<StackSample, Memory>
+    requires { counted.now.count < 2 ^ 63 }
+    ensures { IfOk result (λ sample. sample ≡ sample_of_count counted.now) }
+{
+    Ok(StackSample {
+        stack: sites(alloc, counted.shown.stack())?,
+        set: counted.shown.set(),
+        values: one(alloc, counted.count as i64)?,
+    })
+}
+
+fn samples_of(alloc: Global, all: &[Counted]) -> Result<Vec<StackSample>, Memory>
+    requires { All (λ (counted : Counted). counted.count < 2 ^ 63) all.now }
+    ensures { IfOk result (λ samples. samples.items ≡ map sample_of_count all.now) }
+{
+    let mut samples = Vec::new(alloc);
+    for counted in all {
+        samples.push(sample(alloc, counted)?)?;
+    }
     Ok(samples)
+}
+
+/// The samples of a goroutine profile, in their order.
+#[tactic(auto, unfolding(crate::specs::Profile::goroutine_samples))]
+pub(crate) fn samples(
+    alloc: Global,
+    parts: &Parts,
+    records: &[Record],
+) -> Result<Vec<StackSample>, Memory>
+    ensures { IfOk result (λ samples. samples.items ≡ goroutine_samples parts.now records.now) }
+{
+    let all = ordered(alloc, parts, records)?;
+    samples_of(alloc, all.as_slice())
 }

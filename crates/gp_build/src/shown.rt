@@ -2,18 +2,20 @@ ghost use Rattle.std.specs.Prelude.{◌≡◌, ◌++◌, fold};
 ghost use Rattle.std.specs.Hash as fed;
 ghost use Rattle.std.specs.Cmp.Lexicographic.{pointwise};
 ghost use Rattle.std.specs.Cmp.{partial_equiv_from_equiv};
-ghost use Rattle.gp_build.specs.Shown.{labels_of, shown_in, same_frame, same_pair, same_shown};
-ghost use Rattle.gp_build.specs.Alike.{frame_input, pair_input, shown_input, same_shown_equiv, shown_input-same};
+ghost use Rattle.gp_build.specs.Shown.{shown_in, same_frame, same_pair, same_shown};
+ghost use Rattle.gp_build.specs.laws.Alike.{frame_input, pair_input, shown_input, same_shown_equiv, shown_input-same};
 
+use crate::lookup::labels;
 use gp_isa::{Frame, Pair, Parts};
 use gp_stack::Record;
 use std::hash::{Hash, Hasher};
 use std::marker::Model;
 
-/// What a record shows of its goroutine: a stack, the leaf first, with labels.
+/// What a record shows of its goroutine: a stack, the leaf first, with labels, those of a label set.
 #[derive(Drop)]
 pub(crate) struct Shown<'a> {
     stack: &'a [Frame],
+    set: u8,
     labels: &'a [Pair],
 }
 
@@ -22,20 +24,7 @@ impl<'a> Model for Shown<'a> {
 
     ghost Value = { Seen };
 
-    ghost view = { λ s. record { stack = s.stack.now; labels = s.labels.now } };
-}
-
-// The pairs of a label set, of which set 0 has none.
-fn labels<'a>(parts: &'a Parts, set: u8) -> &'a [Pair]
-    ensures { result.now ≡ labels_of parts.now set }
-{
-    if set == 0 {
-        return &[];
-    }
-    match parts.labels.get(set as usize - 1) {
-        Some(set) => set.pairs.as_slice(),
-        None => &[],
-    }
+    ghost view = { λ s. record { stack = s.stack.now; set = s.set; labels = s.labels.now } };
 }
 
 impl<'a> Shown<'a> {
@@ -45,6 +34,7 @@ impl<'a> Shown<'a> {
     {
         Shown {
             stack: row.stack.as_slice(),
+            set: row.set,
             labels: labels(parts, row.set),
         }
     }
@@ -53,6 +43,12 @@ impl<'a> Shown<'a> {
         ensures { result.now ≡ self.now.stack }
     {
         self.stack
+    }
+
+    pub(crate) fn set(&self) -> u8
+        ensures { result ≡ self.now.set }
+    {
+        self.set
     }
 
     pub(crate) fn labels(&self) -> &'a [Pair]

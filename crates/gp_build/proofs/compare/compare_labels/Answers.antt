@@ -16,13 +16,16 @@ pub loop-x-preserved : goal.loop-x-preserved
 loop-x-preserved c = (
   (tt, tt),
   tt,
-  left_more pair_cmp c.args.a.now c.args.b.now _ _ _ _ c.in-Some.x.now c.in-Some.y.now c.in-Some.ensures.steps.0 c.in-Some.ensures.steps.1 c.loop-x.invariant.2 (sym c.compare_pairs.ensures ∙ c.in-Equal.is),
+  left_more pair_cmp c.args.a.now c.args.b.now _ _ _ _ c.in-Some.x.now c.in-Some.y.now
+      c.in-Some.ensures.steps.0 c.in-Some.ensures.steps.1 c.loop-x.invariant.2 (sym c.compare_pairs.ensures ∙ c.in-Equal.is),
 )
 
 pub returns-in_default : goal.returns-in_default
 returns-in_default c =
-    left_told pair_cmp c.args.a.now c.args.b.now _ _ _ _ c.in-Some.x.now c.in-Some.y.now c.compare_pairs.result c.in-Some.ensures.steps.0 c.in-Some.ensures.steps.1 c.loop-x.invariant.2 c.compare_pairs.ensures c.in_default.not-Equal
+    left_told pair_cmp c.args.a.now c.args.b.now _ _ _ _ c.in-Some.x.now c.in-Some.y.now c.compare_pairs.result
+    c.in-Some.ensures.steps.0 c.in-Some.ensures.steps.1 c.loop-x.invariant.2 c.compare_pairs.ensures c.in_default.not-Equal
 
 pub returns : goal.returns
 returns c =
-    c.cmp.ensures ∙ left_end pair_cmp c.args.a.now c.args.b.now _ _ (either_empty_from_Zip c.loop-x.x-iterator c.next.new.self c.next.result c.in-None.is c.next.ensures.steps) c.loop-x.invariant.2
+    c.cmp.ensures ∙ left_end pair_cmp c.args.a.now c.args.b.now _ _
+    (either_empty_from_Zip c.loop-x.x-iterator c.next.new.self c.next.result c.in-None.is c.next.ensures.steps) c.loop-x.invariant.2

@@ -1,13 +1,15 @@
-use Rattle.std.proofs.Common.{ap, ◌∙◌}
-use Rattle.gp_build.specs.Samples.{samples_of}
-use Rattle.gp_build.proofs.Assembly.{put_together}
+use Rattle.std.proofs.Common.{◌≡◌, IfOk, ◌∙◌, subst}
+use Rattle.gp_wire.specs.declared.profile.Profile.{Profile}
+use Rattle.gp_build.specs.Message.{profile_of}
+use Rattle.gp_build.specs.Profile.{goroutine_samples, goroutine_profile_of}
 use Rattle.gp_build.proofs.goroutine.goroutine_profile.Goals as goal
 
 pub returns : goal.returns
+unfolding goroutine_profile_of
 returns c =
-    put_together c.args.program.now c.args.file.now c.args.records.now
-    c.in_ok-samples.samples.items c.as_slice-samples.result.now c.in_ok-strings.strings.keys c.in_ok-locations.locations.keys c.in_ok-functions.functions.keys
-    c.parts-parts.result.now c.parts-parts.ensures.parts
-    (c.in_ok-samples.ensures.samples ∙ ap (samples_of c.parts-parts.result.now) c.as_slice.ensures) c.as_slice-samples.ensures.value c.in_ok-strings.ensures c.in_ok-locations.ensures c.in_ok-functions.ensures
-    _ _ _ _ _ _
-    c.kind-kind.ensures c.in_ok-one.ensures c.in_ok-samples-2.ensures c.in_ok-locations-2.ensures c.in_ok-functions-2.ensures c.in_ok-strings-2.ensures
+    let samples =
+    c.as_slice-2.ensures.value ∙ c.in_ok-samples.ensures
+    ∙ (λ i. goroutine_samples (c.parts.ensures.parts i) (c.as_slice.ensures i)) in
+    subst (λ (profile : Profile). IfOk c.profile.result (λ p. p ≡ profile))
+    (λ i. profile_of c.args.program.now c.args.file.now (c.in_ok-header.ensures i) (samples i))
+    c.profile.ensures

@@ -1,5 +1,5 @@
 use Rattle.std.proofs.Common.{◌≡◌, take, map}
-use Rattle.gp_build.specs.Profile.{label_of}
+use Rattle.gp_build.specs.Message.{label_of}
 use Rattle.gp_build.proofs.messages.labels.Given as goal
 
 abbrev pub invariant-loop-pair : goal.invariant-loop-pair

@@ -3,7 +3,7 @@ use Rattle.std.proofs.lemmas.List.{take_all, length-map, length-take}
 use Rattle.gp_stack.specs.declared.record.Record.{Record}
 use Rattle.gp_build.specs.Shown.{Shown, shown_in}
 use Rattle.gp_build.specs.Samples.{entry_of, counted}
-use Rattle.gp_build.specs.Alike.{same_shown_equiv}
+use Rattle.gp_build.specs.laws.Alike.{same_shown_equiv}
 use Rattle.gp_build.proofs.Tally.{tally, tally-nil, tally-step, lookup-small}
 use Rattle.gp_build.proofs.Counts.{counted-tally}
 use Rattle.gp_build.proofs.Steps.{map_more}

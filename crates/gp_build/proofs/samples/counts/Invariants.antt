@@ -1,6 +1,6 @@
 use Rattle.std.proofs.Common.{◌≡◌, take, map}
 use Rattle.gp_build.specs.Shown.{shown_in}
-use Rattle.gp_build.specs.Alike.{same_shown_equiv}
+use Rattle.gp_build.specs.laws.Alike.{same_shown_equiv}
 use Rattle.gp_build.proofs.Tally.{tally}
 use Rattle.gp_build.proofs.samples.counts.Given as goal
 

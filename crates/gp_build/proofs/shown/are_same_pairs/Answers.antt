@@ -15,5 +15,6 @@ pub loop-x-preserved : goal.loop-x-preserved
 loop-x-preserved c = (
   (tt, tt),
   tt,
-  same_more same_pair c.args.a.now c.args.b.now _ _ _ _ c.in-Some.x.now c.in-Some.y.now c.in-Some.ensures.steps.0 c.in-Some.ensures.steps.1 c.loop-x.invariant.2 (sym c.is_same_pair.ensures ∙ c.if-not-is_same_pair.false),
+  same_more same_pair c.args.a.now c.args.b.now _ _ _ _ c.in-Some.x.now c.in-Some.y.now
+      c.in-Some.ensures.steps.0 c.in-Some.ensures.steps.1 c.loop-x.invariant.2 (sym c.is_same_pair.ensures ∙ c.if-not-is_same_pair.false),
 )

@@ -1,6 +1,6 @@
 use Rattle.std.proofs.Common.{◌≡◌, take, fold}
 use Rattle.std.specs.List.{flat_map}
-use Rattle.gp_build.specs.Alike.{frame_input}
+use Rattle.gp_build.specs.laws.Alike.{frame_input}
 use Rattle.gp_build.proofs.shown.hash_frames.Given as goal
 
 abbrev pub invariant-loop-frame : goal.invariant-loop-frame

@@ -1,0 +1,8 @@
+-- What a table holds while it is made.
+use Rattle.std.specs.Prelude.{List}
+use Rattle.indexmap.specs.IndexSet.{insert_all}
+use Rattle.gp_build.specs.Numbers.{Need, same_need}
+
+-- a string table after further needs, each new one at its end
+abbrev pub needed : List Need → List Need → List Need
+needed strings needs = insert_all same_need strings needs
