@@ -1,6 +1,6 @@
 -- How many entries can come once the journal is full: what is owed to the requests and to the active profile, and
 -- what workers still hold, falls with each entry then.
-use Rattle.std.proofs.Common.{◌≡◌, ℕ, ◌+◌, ◌*◌, ◌<◌, ◌≤◌, Bool, true, false, not, ◌==◌, cond, List, [], ◌∷◌, length, get_or, set, drop, replicate, sum_by, count_by, Option, Some, is_none, refl, ap, ◌∙◌, arith, suc, add-mul, one-mul}
+use Rattle.std.proofs.Common.{◌≡◌, ℕ, ◌+◌, ◌*◌, ◌<◌, ◌≤◌, Bool, true, false, not, ◌==◌, cond, List, [], ◌∷◌, length, set, drop, replicate, sum_by, Option, Some, is_none, refl, ap, ◌∙◌, arith, add-mul, one-mul}
 use Rattle.std.proofs.lemmas.List.Sums.{sum_by-cons, sum_by-set, count_by-le-length}
 use Rattle.std.proofs.lemmas.Bool.{eq-eqb, ne_eqb}
 use Rattle.gp_journal.specs.declared.entry.Entry.{Entry}
@@ -9,26 +9,23 @@ use Rattle.gp_journal.specs.declared.goroutine.Goroutine.{Goroutine}
 use Rattle.gp_journal.specs.declared.goroutine.Worker.{Worker}
 use Rattle.gp_journal.specs.declared.settings.Settings.{Settings}
 use Rattle.gp_journal.specs.Settings.{AreInRange}
-use Rattle.gp_journal.specs.State.{Code, State, nobody, resting, goroutine, worker, births, first, is_behind}
+use Rattle.gp_journal.specs.State.{Code, State, resting, goroutine, worker, births, first, is_behind, number_behind}
 use Rattle.gp_journal.specs.May.{May}
 use Rattle.gp_journal.specs.Effect.{recorded, left, ticked, after}
 use Rattle.gp_journal.proofs.Whole.{IsWhole, live_within}
 use Rattle.gp_journal.proofs.Parts.{one_if}
 use Rattle.gp_journal.proofs.Acts.{acts_all}
 use Rattle.gp_journal.proofs.Steps.{behind_parts, none_active}
-use Rattle.gp_journal.proofs.Rows.{Settled, IsQuiet, step_settled, not_behind}
+use Rattle.gp_journal.proofs.Rows.{IsQuiet, step_settled, not_behind}
+use Rattle.gp_journal.proofs.Unrecorded.{behind_same, behind_less}
 use Rattle.gp_journal.proofs.Going.{op_goes, run_goes, tick_due, no_tick_due, busy_within}
 use Rattle.gp_journal.proofs.Fates.{continues}
 use Rattle.gp_journal.proofs.Counting.{Numbered, IsNumbered, next_request, all_there}
 use Rattle.gp_journal.proofs.Law.{quiet_active}
 
--- how many are behind
-abbrev unrecorded : ℕ → List Goroutine → ℕ
-unrecorded active gs = count_by (is_behind active) gs
-
 -- what is owed to the active profile: its Records and its Close
 abbrev pending : ℕ → List Goroutine → ℕ
-pending active gs = cond (active == 0) 0 (1 + unrecorded active gs)
+pending active gs = cond (active == 0) 0 (1 + number_behind active gs)
 
 -- and to the requests that are left
 pub owed : ℕ → ℕ → ℕ → List Goroutine → ℕ
@@ -60,27 +57,10 @@ unfolding held
 held_most [] = omega arith
 held_most (v ∷ ws) = let rest = held_most ws in let a = no_bit (is_none v.runs) in let b = one_bit v.tick in omega (arith, sum_by-cons held_by v ws)
 
--- where the same ones are behind, as many are
-unrecorded_same : (active : ℕ) (xs ys : List Goroutine) → Settled active xs ys → unrecorded active ys ≡ unrecorded active xs
-unrecorded_same active [] [] h = refl
-unrecorded_same active [] (y ∷ ys) h =
-    let e = same_bit _ _ ((h 0).same) in omega (arith, sum_by-cons (λ x. cond (is_behind active x) 1 0) y ys, unrecorded_same active [] ys (λ k. h (suc k)))
-unrecorded_same active (x ∷ xs) [] h =
-    let e = same_bit _ _ ((h 0).same) in omega (arith, sum_by-cons (λ z. cond (is_behind active z) 1 0) x xs, unrecorded_same active xs [] (λ k. h (suc k)))
-unrecorded_same active (x ∷ xs) (y ∷ ys) h =
-    let e = same_bit _ _ ((h 0).same) in
-    omega (arith, sum_by-cons (λ z. cond (is_behind active z) 1 0) x xs, sum_by-cons (λ z. cond (is_behind active z) 1 0) y ys, unrecorded_same active xs ys (λ k. h (suc k)))
-
--- one of those that were behind is recorded
-unrecorded_less : (active g : ℕ) (gs : List Goroutine) (y : Goroutine) → g < length gs → is_behind active (get_or gs g nobody) ≡ true → is_behind active y ≡ false → unrecorded active (set gs g y) + 1 ≡ unrecorded active gs
-unrecorded_less active g gs y within was isnt =
-    let a = same_bit _ _ was in let b = same_bit _ _ isnt in
-    omega (arith, sum_by-set (λ z. cond (is_behind active z) 1 0) gs g y nobody within)
-
 pending_none : (gs : List Goroutine) (active : ℕ) → active ≡ 0 → pending active gs ≡ 0
 pending_none gs active e = rw (eq-eqb active 0 e) refl
 
-pending_some : (gs : List Goroutine) (active : ℕ) → 0 < active → pending active gs ≡ 1 + unrecorded active gs
+pending_some : (gs : List Goroutine) (active : ℕ) → 0 < active → pending active gs ≡ 1 + number_behind active gs
 pending_some gs active some = rw (ne_eqb active 0 (λ e. omega arith)) refl
 
 product_next : (each a b : ℕ) → a + 1 ≡ b → b * each ≡ a * each + each
@@ -133,7 +113,7 @@ module _ (code : Code) (settings : Settings) (s : State) (whole : IsWhole s) (nu
   quiet_pending entry may quiet =
       let t = after code settings s entry in
       ap (λ a. pending a t.goroutines) (quiet_active code settings s entry whole may quiet)
-      ∙ ap (λ n. cond (s.active == 0) 0 (1 + n)) (unrecorded_same s.active s.goroutines t.goroutines (step_settled code settings s entry whole may quiet))
+      ∙ ap (λ n. cond (s.active == 0) 0 (1 + n)) (behind_same s.active s.goroutines t.goroutines (step_settled code settings s entry whole may quiet))
 
   -- nothing more is owed after a quiet entry
   quiet_owed : (entry : Entry) → May code settings s entry → IsQuiet entry → then_owed entry ≤ before
@@ -162,7 +142,7 @@ module _ (code : Code) (settings : Settings) (s : State) (whole : IsWhole s) (nu
   record_owed actor g may =
       let y = recorded s.active (goroutine s g) in
       let within = live_within s.goroutines g ((behind_parts s.active (goroutine s g) may.unrecorded).0) in
-      let less = unrecorded_less s.active g s.goroutines y within may.unrecorded (not_behind s.active y (omega arith)) in
+      let less = behind_less s.active g s.goroutines y within may.unrecorded (not_behind s.active y (omega arith)) in
       let a = pending_some (set s.goroutines g y) s.active may.is_active in
       let b = pending_some s.goroutines s.active may.is_active in omega arith
 

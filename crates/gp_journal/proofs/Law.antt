@@ -137,7 +137,7 @@ quiet_taken code settings s entry entries whole some legal quiet rest =
     ∙ ap (λ a. missing code a 0 t.goroutines) same
     ∙ missing_same code s.active 0 s.goroutines t.goroutines (step_settled code settings s entry whole legal.0 quiet)
 
-record_active : (code : Code) (settings : Settings) (s : State) (actor g : ℕ) → 0 < s.active → 0 < (after code settings s (Record actor g)).active
+pub record_active : (code : Code) (settings : Settings) (s : State) (actor g : ℕ) → 0 < s.active → 0 < (after code settings s (Record actor g)).active
 unfolding after
 record_active code settings s actor g some = some
 
@@ -149,7 +149,7 @@ record_taken code settings s actor g entries whole may taken =
     ∙ missing_insert code s.active 0 g g s.goroutines (recorded s.active (goroutine s g)) (omega arith) may.unrecorded
     (not_behind s.active (recorded s.active (goroutine s g)) (omega arith))
 
-none_opens : (settings : Settings) (s : State) (epoch room : ℕ) → 0 < s.active → MayOpen settings s epoch room → ⊥
+pub none_opens : (settings : Settings) (s : State) (epoch room : ℕ) → 0 < s.active → MayOpen settings s epoch room → ⊥
 none_opens settings s epoch room some may = let none = none_active settings s may.is_asked in omega arith
 
 all_taken : (code : Code) (settings : Settings) (entries : List Entry) → has_close entries ≡ true → (s : State) → IsWhole s → 0 < s.active → AreLegal code settings s entries → Taken code settings s entries
@@ -168,7 +168,7 @@ all_taken code settings (Park w g ∷ entries) closes s whole some legal = quiet
 all_taken code settings (Refuse room n ∷ entries) closes s whole some legal = quiet_taken code settings s (Refuse room n) entries whole some legal tt (all_taken code settings entries closes)
 
 -- At an Open every live goroutine is behind.
-all_behind : (settings : Settings) (epoch room : ℕ) (s : State) → IsWhole s → MayOpen settings s epoch room → (k : ℕ) → is_behind epoch (goroutine s k) ≡ is_live (goroutine s k)
+pub all_behind : (settings : Settings) (epoch room : ℕ) (s : State) → IsWhole s → MayOpen settings s epoch room → (k : ℕ) → is_behind epoch (goroutine s k) ≡ is_live (goroutine s k)
 all_behind settings epoch room s whole may k = by (is_live (goroutine s k)) refl
   where
     below : ((goroutine s k).epoch ≡ s.last_epoch) ⊎ Behind s.active s.last_epoch (goroutine s k) → (goroutine s k).epoch < epoch
@@ -179,11 +179,11 @@ all_behind settings epoch room s whole may k = by (is_live (goroutine s k)) refl
     by true live = behind_from epoch (goroutine s k) live (below (whole.epochs k live))
     by false dead = and_left (is_live (goroutine s k)) _ dead
 
-record Opened (code : Code) (settings : Settings) (s : State) (epoch room : ℕ) : Type 0 where
-  same_goroutines : (after code settings s (Open epoch room)).goroutines ≡ s.goroutines
-  now_active : (after code settings s (Open epoch room)).active ≡ epoch
+pub record Opened (code : Code) (settings : Settings) (s : State) (epoch room : ℕ) : Type 0 where
+  pub same_goroutines : (after code settings s (Open epoch room)).goroutines ≡ s.goroutines
+  pub now_active : (after code settings s (Open epoch room)).active ≡ epoch
 
-opened : (code : Code) (settings : Settings) (s : State) (epoch room : ℕ) → Opened code settings s epoch room
+pub opened : (code : Code) (settings : Settings) (s : State) (epoch room : ℕ) → Opened code settings s epoch room
 unfolding after
 opened code settings s epoch room = record { same_goroutines = refl; now_active = refl }
 
@@ -231,7 +231,7 @@ follows_record code settings s actor g =
     (λ behind. absurd (true≢false (sym behind ∙ not_behind s.active (recorded s.active (goroutine s g)) (omega arith))))
     (λ k behind. record { was = behind; place = record { start = refl; inherited = refl; count = refl } })
 
-record_same_active : (code : Code) (settings : Settings) (s : State) (actor g : ℕ) → (after code settings s (Record actor g)).active ≡ s.active
+pub record_same_active : (code : Code) (settings : Settings) (s : State) (actor g : ℕ) → (after code settings s (Record actor g)).active ≡ s.active
 unfolding after
 record_same_active code settings s actor g = refl
 

@@ -6,8 +6,8 @@ pub use Rattle.gp_journal.proofs.Law.{after_all-append, prefix_legal, front_lega
 pub use Rattle.gp_journal.proofs.Whole.{IsWhole, Behind}
 pub use Rattle.gp_journal.proofs.Law.{first_whole, all_whole}
 pub use Rattle.gp_journal.proofs.Steps.{step_whole}
--- An Op by cases: what holds in each of them holds after it.
-pub use Rattle.gp_journal.proofs.Acts.{Cases, acts_all}
+-- An Op by cases: what holds of the state in each of them holds after it, also together with the answer.
+pub use Rattle.gp_journal.proofs.Acts.{Cases, acts_all, Told, acts_told}
 -- What the state that a legal journal reaches keeps: it is whole, its queue holds the runnable, its clocks have come.
 pub use Rattle.gp_journal.proofs.Reached.{is_whole, holds_runnable, has_come, is_kept, clock_fits}
 -- Who runs there has a worker, is born, waits nowhere and doesn't stand in the queue; who is runnable stands in it once.
@@ -25,6 +25,12 @@ pub use Rattle.gp_journal.proofs.OnWorkers.{statuses_match_workers, worker_at}
 pub use Rattle.gp_journal.proofs.Steps.{behind_parts, behind_from, none_active, active_last}
 -- An entry that is no Open and no Close leaves the active profile.
 pub use Rattle.gp_journal.proofs.Law.{quiet_active}
+-- How many have still to be recorded: all live ones as a profile is opened, one fewer with each Record, else as many.
+pub use Rattle.gp_journal.proofs.Rows.{IsQuiet}
+pub use Rattle.gp_journal.proofs.Unrecorded.{unrecorded_open, unrecorded_record, unrecorded_quiet, unrecorded_add_up}
+-- The laws on single entries, of a whole state and the state after a legal entry: other workers and the epochs stay,
+-- what happens to the queue, a run that is over stays over, and nothing is legal after a complete run.
+pub use Rattle.gp_journal.proofs.EachEntry.{step_others, step_epochs, step_queue, step_over, nothing_may}
 -- What the due entry tells: where an Op or a Run is due no profile is asked for and some of the slice is left.
 pub use Rattle.gp_journal.proofs.Going.{GoesOn, op_goes, run_goes, run_extent}
 -- What operations do to the places of a goroutine in wait lists: as many as before, one more for whom they block, one

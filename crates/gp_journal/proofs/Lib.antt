@@ -21,4 +21,6 @@ pub mod InLine
 pub mod Reached
 pub mod Lengths
 pub mod Naming
+pub mod Unrecorded
+pub mod EachEntry
 pub mod Lemmas

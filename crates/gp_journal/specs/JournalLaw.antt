@@ -1,10 +1,10 @@
 -- The journal law: what epochs say, and what stands still while a profile is active.
-use Rattle.std.specs.Prelude.{◌≡◌, ◌⊎◌, ◌+◌, ◌<◌, ℕ, Bool, true, false, List, [], ◌∷◌, ◌++◌}
+use Rattle.std.specs.Prelude.{◌≡◌, ◌⊎◌, ◌+◌, ◌<◌, ℕ, Bool, true, false, List, [], ◌∷◌, ◌++◌, length}
 use Rattle.gp_stack.specs.Goroutine.{stack_of}
 use Rattle.gp_journal.specs.declared.entry.Entry.{Entry}
 use Rattle.gp_journal.specs.declared.entry.Entry.TheVariants.{Open, Close}
 use Rattle.gp_journal.specs.declared.settings.Settings.{Settings}
-use Rattle.gp_journal.specs.State.{Code, State, goroutine, is_running, is_live, trace_of}
+use Rattle.gp_journal.specs.State.{Code, State, goroutine, is_running, is_live, live, unrecorded, trace_of}
 use Rattle.gp_journal.specs.Effect.{labels_at}
 use Rattle.gp_journal.specs.Run.{IsLegal, last, at}
 use Rattle.gp_journal.specs.Frozen.{frozen, rows_taken, sorted}
@@ -52,3 +52,12 @@ abbrev pub RowsAreFrozen : Type 0
 RowsAreFrozen = (code : Code) (settings : Settings) (before : List Entry) (epoch room : ℕ) (during : List Entry) →
     IsLegal code settings (before ++ Open epoch room ∷ during) → has_close during ≡ true →
     sorted (rows_taken code settings (last code settings (before ++ Open epoch room ∷ [])) during) ≡ frozen code (last code settings before)
+
+-- From the Open of a profile on, up to its Close, the rows taken so far and the goroutines that have still to be
+-- recorded are together as many as were live at the Open.
+abbrev pub UnrecordedAddUp : Type 0
+UnrecordedAddUp = (code : Code) (settings : Settings) (before : List Entry) (epoch room : ℕ) (during : List Entry) →
+    let opened = before ++ Open epoch room ∷ [] in
+    let journal = before ++ Open epoch room ∷ during in
+    IsLegal code settings journal → has_close during ≡ false →
+    length (rows_taken code settings (last code settings opened) during) + unrecorded (last code settings journal) ≡ live (last code settings before)

@@ -13,5 +13,6 @@ pub mod Reached
 pub mod JournalLaw
 pub mod RunLaws
 pub mod NumberLaws
+pub mod StepLaws
 pub mod Worked
 pub mod Named

@@ -1,10 +1,10 @@
 -- The condition of each entry.
-use Rattle.std.specs.Prelude.{◌≡◌, ◌+◌, ◌≤◌, ◌<◌, ℕ, Bool, true, false, ◌||◌, ◌==◌, count_by, Some}
+use Rattle.std.specs.Prelude.{◌≡◌, ◌+◌, ◌≤◌, ◌<◌, ℕ, Bool, true, false, ◌||◌, ◌==◌, Some}
 use Rattle.gp_journal.specs.declared.entry.Entry.{Entry}
 use Rattle.gp_journal.specs.declared.entry.Entry.TheVariants.{Start, Run, Op, Tick, Park, Open, Refuse, Record, Close}
 use Rattle.gp_journal.specs.declared.goroutine.Status.TheVariants.{Runnable}
 use Rattle.gp_journal.specs.declared.settings.Settings.{Settings}
-use Rattle.gp_journal.specs.State.{Code, State, goroutine, worker, is_idle, is_behind, live, running}
+use Rattle.gp_journal.specs.State.{Code, State, goroutine, worker, is_idle, is_behind, unrecorded, live, running}
 use Rattle.gp_journal.specs.Due.{asked, over, due}
 
 -- whether g has the active profile's epoch, where there is one
@@ -54,7 +54,7 @@ pub record MayRecord (settings : Settings) (state : State) (actor g : ℕ) : Typ
 pub record MayClose (state : State) (epoch : ℕ) : Type 0 where
   pub is_active : 0 < state.active
   pub epoch_given : epoch ≡ state.active
-  pub all_recorded : count_by (is_behind state.active) state.goroutines ≡ 0
+  pub all_recorded : unrecorded state ≡ 0
 
 -- Each entry is legal exactly under its condition.
 abbrev pub May : Code → Settings → State → Entry → Type 0

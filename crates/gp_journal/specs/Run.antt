@@ -1,8 +1,9 @@
 -- Legal journals.
 use Rattle.std.specs.Prelude.{ℕ, List, [], ◌∷◌, take}
+use Rattle.gp_isa.specs.declared.parts.Parts.{Parts}
 use Rattle.gp_journal.specs.declared.entry.Entry.{Entry}
 use Rattle.gp_journal.specs.declared.settings.Settings.{Settings}
-use Rattle.gp_journal.specs.State.{Code, State, first}
+use Rattle.gp_journal.specs.State.{Code, State, code_of, first}
 use Rattle.gp_journal.specs.Due.{IsComplete}
 use Rattle.gp_journal.specs.May.{May}
 use Rattle.gp_journal.specs.Effect.{after}
@@ -24,6 +25,10 @@ IsLegal code settings journal = AreLegal code settings (first code settings) jou
 -- the state after all entries of a journal
 abbrev pub last : Code → Settings → List Entry → State
 last code settings journal = after_all code settings (first code settings) journal
+
+-- the state after a journal of a program's run
+abbrev pub state_of : Parts → Settings → List Entry → State
+state_of program settings journal = last (code_of program) settings journal
 
 -- the state before entry k, counted from 0
 abbrev pub at : Code → Settings → List Entry → ℕ → State

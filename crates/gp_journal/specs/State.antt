@@ -120,6 +120,14 @@ is_idle state w = nat_lt w (length state.workers) && is_none (worker state w).ru
 abbrev pub is_behind : ℕ → Goroutine → Bool
 is_behind epoch g = is_live g && nat_lt g.epoch epoch
 
+-- how many of some goroutines have
+abbrev pub number_behind : ℕ → List Goroutine → ℕ
+number_behind epoch goroutines = count_by (is_behind epoch) goroutines
+
+-- how many of a state have still to be recorded in the active profile
+abbrev pub unrecorded : State → ℕ
+unrecorded state = number_behind state.active state.goroutines
+
 -- The goroutine that runs `main`: runnable, with no points passed and the empty label set 0.
 abbrev pub main_goroutine : Code → Goroutine
 main_goroutine code = record { start = code.main; set = 0; count = 0; status = Runnable; granted = false; epoch = 0; blocked = 0; woken = 0 }

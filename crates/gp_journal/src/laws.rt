@@ -1,16 +1,18 @@
 ghost use Rattle.gp_journal.specs.State.{code_of};
-ghost use Rattle.gp_journal.specs.JournalLaw.{EpochsHold, UnrecordedStand, RowsAreFrozen};
+ghost use Rattle.gp_journal.specs.JournalLaw.{EpochsHold, UnrecordedStand, RowsAreFrozen, UnrecordedAddUp};
 ghost use Rattle.gp_journal.specs.RunLaws.{PrefixesAreLegal, BornInOrder, StatusesMatchWorkers, QueueHoldsRunnable, EachWaitsOnce, WaitListsTellClocks, RefuseLeavesAll, RunsEndOneWay};
 ghost use Rattle.gp_journal.specs.NumberLaws.{EntriesAreCounted, NumbersHold, EntriesAreBounded, ClocksAreBelow, EpochsAreOrdered};
+ghost use Rattle.gp_journal.specs.StepLaws.{OthersStay, EpochsStay, QueueAfter, OverStays, NothingAfterComplete};
 ghost use Rattle.gp_journal.specs.Worked.{SmallestProgram, smallest, WokenBetween, wake, RoomForTwo, pair, ContendedMutex, contended, Deadlocks, deadlocked, FaultOfUnlock, faulty, Ticks, six, FullJournal, long};
 
 /// The journal law, of every legal journal of every program: what epochs say at each step, that goroutines which
 /// have still to be recorded stand where they stood as the profile was opened, a wake included, and that the rows
-/// taken at the Record entries are the frozen ones.
+/// taken at the Record entries are the frozen ones. Rows taken and goroutines still to be recorded add up.
 pub fn law_journal()
     ensures epochs { EpochsHold }
     ensures unrecorded { UnrecordedStand }
     ensures rows { RowsAreFrozen }
+    ensures add_up { UnrecordedAddUp }
 {}
 
 /// Laws of legal journals: prefixes, births in order, on which worker a goroutine runs, who stands in the queue, waits
@@ -33,6 +35,16 @@ pub fn law_numbers()
     ensures entries { EntriesAreBounded }
     ensures come { ClocksAreBelow }
     ensures ordered { EpochsAreOrdered }
+{}
+
+/// Laws on single entries of legal journals: they leave the workers that don't make them, Open and Close alone change
+/// epochs, who joins the queue and leaves it, a run that is over stays over, and nothing comes after a complete run.
+pub fn law_entries()
+    ensures others { OthersStay }
+    ensures epochs { EpochsStay }
+    ensures queue { QueueAfter }
+    ensures over { OverStays }
+    ensures complete { NothingAfterComplete }
 {}
 
 /// Worked journals of small programs: legal ones, with what the last state tells and the rows frozen at an Open, and

@@ -13,13 +13,14 @@
 //! keeps), `Due` (when a profile is asked for, when a run is over, what is due), `May` (the condition of each entry),
 //! `Effect` (what each entry does), `Answer` (what it tells), `Run` (legal journals), `Frozen` (the rows of a profile),
 //! `Waiting` (places in wait lists), `Standing` (who stands first), `Actors` (who makes each entry), `Reached` (states
-//! of legal journals). `JournalLaw`, `RunLaws` and `NumberLaws` say the laws, `Worked` has journals worked out by hand.
+//! of legal journals). `JournalLaw`, `RunLaws`, `NumberLaws` and `StepLaws` say the laws, `Worked` has journals worked out by hand.
 //!
 //! Promised, of every legal journal of every program (`law_journal`): while a profile is active a running goroutine has
 //! its epoch, and one that has still to be recorded stands where it stood at the Open, even where it was woken since;
 //! so the rows taken at the Record entries are, sorted, the rows of all goroutines live at the Open, each once.
 //! `law_runs` and `law_numbers` have the other laws: prefixes, births, who runs on which worker, who stands in the queue,
 //! waits, refusals, ends, bounds on entries, clock, slices, births and epochs, and the order of clocks and of epochs.
+//! `law_entries` says what single entries leave, and what they do to the queue.
 //! Crates above take their lemmas from `proofs/Lemmas.antt` alone.
 #![tactic(auto)]
 
@@ -33,6 +34,6 @@ mod settings;
 pub use answer::{Applied, Foreseen, SharedPoint, Wait, Woken};
 pub use entry::{Counts, Ended, Entry, Journal, Refusals};
 pub use goroutine::{Goroutine, Status, Worker};
-pub use laws::{law_journal, law_numbers, law_runs, law_worked};
+pub use laws::{law_entries, law_journal, law_numbers, law_runs, law_worked};
 pub use run::Run;
 pub use settings::{Picks, Request, Requests, Settings};

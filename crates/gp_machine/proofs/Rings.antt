@@ -1,4 +1,4 @@
--- Links lead through a line again once a goroutine stands at its tail, or one has left it.
+-- Links lead through a line again once a goroutine stands at its tail or its head, or one has left it.
 use Rattle.std.proofs.Common.{◌≡◌, ◌≢◌, ℕ, zero, suc, ◌+◌, ◌-◌, ◌<◌, ◌≤◌, Some, List, [], ◌∷◌, ◌++◌, length, get_or, set, replicate, refl, sym, ap, ◌∙◌, subst, inl, inr, arith}
 use Rattle.std.proofs.lemmas.List.{get_or-set_same, get_or-set_other, length-set, length_push, get_or-replicate, length-replicate}
 use Rattle.std.proofs.lemmas.Bool.{cases_eq}
@@ -86,6 +86,47 @@ leads_pushed next prev next' prev' a (x ∷ rest) end g made leads other none in
     let later = leads_pushed next prev next' prev' x rest end g made leads.1 (other_than x g rest none) (omega (arith, none, times-cons g x rest)) (omega (arith, inner, times-cons end x rest)) in
     (record { behind = behind; before = before }, later)
 
+-- the links once g stands between the end and the head
+record IsFronted (next : List ℕ) (prev : List ℕ) (next' : List ℕ) (prev' : List ℕ) (end : ℕ) (g : ℕ) : Type 0 where
+  pub links : (k : ℕ) → k ≢ end → k ≢ g → get_or next' k 0 ≡ get_or next k 0
+  pub to : get_or next' end 0 ≡ g
+  pub on : get_or next' g 0 ≡ get_or next end 0
+  pub backs : (k : ℕ) → k ≢ g → k ≢ get_or next end 0 → get_or prev' k 0 ≡ get_or prev k 0
+  pub back : get_or prev' g 0 ≡ end
+  pub last : get_or prev' (get_or next end 0) 0 ≡ g
+
+module _ (next prev next' prev' : List ℕ) (end g : ℕ) (made : IsFronted next prev next' prev' end g) (outer : end ≢ g) where
+  -- links from a place behind the head on stay
+  behind_stay : (a : ℕ) (items : List ℕ) → Leads next prev a items end → a ≢ end → a ≢ g → times end items ≡ 0 → times g items ≡ 0 →
+      times (get_or next end 0) items ≡ 0 → end ≢ get_or next end 0 → Leads next' prev' a items end
+  behind_stay a [] leads not_end not_g inner none apart past =
+      record { behind = made.links a not_end not_g ∙ leads.behind; before = made.backs end outer past ∙ leads.before }
+  behind_stay a (x ∷ rest) leads not_end not_g inner none apart past =
+      let x_g = other_than x g rest none in
+      let near : AreNeighbours next' prev' a x = record { behind = made.links a not_end not_g ∙ leads.0.behind; before = made.backs x x_g (other_than x (get_or next end 0) rest apart) ∙ leads.0.before } in
+      let later = behind_stay x rest leads.1 (other_than x end rest inner) x_g (omega (arith, inner, times-cons end x rest))
+      (omega (arith, none, times-cons g x rest)) (omega (arith, apart, times-cons (get_or next end 0) x rest)) past in
+      (near, later)
+
+  leads_fronted : (items : List ℕ) → Leads next prev end items end → times end items ≡ 0 → times g items ≡ 0 → ((k : ℕ) → times k items ≤ 1) →
+      Leads next' prev' end (g ∷ items) end
+  leads_fronted [] leads inner none once =
+      let before = ap (λ (k : ℕ). get_or prev' k 0) (sym leads.behind) ∙ made.last in
+      (record { behind = made.to; before = made.back }, record { behind = made.on ∙ leads.behind; before = before })
+  leads_fronted (x ∷ rest) leads inner none once =
+      let head : get_or next end 0 ≡ x = leads.0.behind in
+      let x_end = other_than x end rest inner in
+      let alone : times x rest ≡ 0 = omega (arith, once x, times-cons x x rest, one_at x) in
+      let before = ap (λ (k : ℕ). get_or prev' k 0) (sym head) ∙ made.last in
+      let later = behind_stay x rest leads.1 x_end (other_than x g rest none) (omega (arith, inner, times-cons end x rest))
+      (omega (arith, none, times-cons g x rest)) (subst (λ (k : ℕ). times k rest ≡ 0) (sym head) alone) (λ same. x_end (sym (same ∙ head))) in
+      (record { behind = made.to; before = made.back }, (record { behind = made.on ∙ head; before = before }, later))
+
+-- the head is another than one that stands nowhere
+head_other : (next prev items : List ℕ) (end g : ℕ) → Leads next prev end items end → end ≢ g → times g items ≡ 0 → get_or next end 0 ≢ g
+head_other next prev [] end g leads past none = λ same. past (sym leads.behind ∙ same)
+head_other next prev (x ∷ rest) end g leads past none = λ same. other_than x g rest none (sym leads.0.behind ∙ same)
+
 -- the links once g is gone
 record IsLeft (next : List ℕ) (prev : List ℕ) (next' : List ℕ) (prev' : List ℕ) (g : ℕ) : Type 0 where
   pub links : (k : ℕ) → get_or next k 0 ≢ g → get_or next' k 0 ≡ get_or next k 0
@@ -155,6 +196,9 @@ module _ (next prev : List ℕ) (end len : ℕ) (ring : IsRing next prev end len
   pub length-items : length (items_of next end len) ≡ len
   length-items = length-walked next prev (get_or next end 0) len
 
+  pub head_within : get_or next end 0 < end + 1
+  head_within = omega (arith, (second next prev end items end end ring.leads (omega arith) ring.within).1)
+
   pub tail_within : get_or prev end 0 < end + 1
   tail_within = omega (arith, last_within next prev end items end end ring.leads (omega arith) ring.within)
 
@@ -206,6 +250,35 @@ module _ (next prev : List ℕ) (end len : ℕ) (ring : IsRing next prev end len
         (leads_pushed next prev next' prev' end items end g pushed_is ring.leads past none (ring.within end (omega arith)))
         (omega (arith, length_push items g, length-items))
         once_pushed within_pushed
+
+    abbrev head : ℕ
+    head = get_or next end 0
+
+    fronted_is : IsFronted next prev (set (set next end g) g head) (set (set prev g end) head g) end g
+    fronted_is = record {
+      links = λ k other other'. get_or-set_other (set next end g) g k head 0 other' ∙ get_or-set_other next end k g 0 other;
+      to = get_or-set_other (set next end g) g end head 0 past ∙ get_or-set_same next end g 0 (omega (arith, ring.nexts));
+      on = get_or-set_same (set next end g) g head 0 (omega (arith, length-set next end g, ring.nexts));
+      backs = λ k other other'. get_or-set_other (set prev g end) head k g 0 other' ∙ get_or-set_other prev g k end 0 other;
+      back =
+          get_or-set_other (set prev g end) head g g 0 (λ same. head_other next prev items end g ring.leads past none (sym same))
+          ∙ get_or-set_same prev g end 0 (omega (arith, ring.prevs));
+      last = get_or-set_same (set prev g end) head g 0 (omega (arith, length-set prev g end, ring.prevs, head_within));
+    }
+
+    once_fronted : (k : ℕ) → times k (g ∷ items) ≤ 1
+    once_fronted k = omega (arith, once_pushed k, times_push k items g, times-cons k g items)
+
+    pub ring_fronted : IsRing (set (set next end g) g (get_or next end 0)) (set (set prev g end) (get_or next end 0) g) end (len + 1)
+        × (items_of (set (set next end g) g (get_or next end 0)) end (len + 1) ≡ g ∷ items_of next end len)
+    ring_fronted =
+        ring_of (set (set next end g) g head) (set (set prev g end) head g) end (len + 1) (g ∷ items)
+        (omega (arith, length-set (set next end g) g head, length-set next end g, ring.nexts))
+        (omega (arith, length-set (set prev g end) head g, length-set prev g end, ring.prevs))
+        (leads_fronted next prev (set (set next end g) g head) (set (set prev g end) head g) end g fronted_is past items ring.leads (ring.within end (omega arith)) none ring.once)
+        (omega (arith, length-items))
+        once_fronted
+        (λ k beyond. omega (arith, within_pushed k beyond, times_push k items g, times-cons k g items))
 
   module _ (g : ℕ) (within : g < end) (one : times g (items_of next end len) ≡ 1) where
     abbrev before : ℕ

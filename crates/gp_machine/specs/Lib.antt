@@ -13,6 +13,7 @@ pub use Rattle.gp_journal.specs.Reached
 pub use Rattle.gp_journal.specs.JournalLaw
 pub use Rattle.gp_journal.specs.RunLaws
 pub use Rattle.gp_journal.specs.NumberLaws
+pub use Rattle.gp_journal.specs.StepLaws
 pub use Rattle.gp_journal.specs.Worked
 pub use Rattle.gp_journal.specs.Named
 pub mod IdSet

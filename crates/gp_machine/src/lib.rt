@@ -24,6 +24,7 @@ pub use gp_journal::{
     law_runs, law_worked,
 };
 pub use machine::Machine;
+pub use queue::Queue;
 
 #[cfg(test)]
 mod replayed;

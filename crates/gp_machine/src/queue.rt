@@ -72,6 +72,19 @@ impl Queue {
         self.len += 1;
     }
 
+    /// Lets goroutine g, which stands nowhere in the queue, stand at its head.
+    pub fn push_front(&mut self, g: u32)
+        requires within { g < self.old.cells }
+        requires absent { count_by (λ other. other == g) self.old.items ≡ 0 }
+        ensures { self.new ≡ record self.old { items = g ∷ self.old.items } }
+    {
+        let end = self.end;
+        let head = self.next[end as usize];
+        join(&mut self.next, &mut self.prev, end, g);
+        join(&mut self.next, &mut self.prev, g, head);
+        self.len += 1;
+    }
+
     /// Takes goroutine g, wherever it stands, from the queue.
     pub fn remove(&mut self, g: u32)
         requires within { g < self.old.cells }
