@@ -1,7 +1,8 @@
 -- What calls of the outside do: counts of faults, bytes taken, files put, bytes appended.
 -- What a source has left, what a store holds and how many puts it was asked for, and what a sink was given is told by
 -- `Some`; by `None` nothing is told.
-use Rattle.std.specs.Prelude.{◌≡◌, ℕ, zero, suc, ◌+◌, ◌-◌, ◌^◌, ◌≤◌, min, not, List, [], ◌∷◌, ◌++◌, filter, take, length, Option, Some, None}
+use Rattle.std.specs.Prelude.{◌≡◌, ℕ, zero, suc, ◌+◌, ◌-◌, ◌^◌, ◌≤◌, min, not, Option, Some, None}
+use Rattle.std.specs.Prelude.{List, [], ◌∷◌, ◌++◌, filter, take, length}
 use Rattle.std.specs.Str.{bytes_eq}
 
 -- A count of faults rose. At the end of its type, 2 ^ 64 - 1, it stands still.

@@ -1,4 +1,5 @@
-ghost use Rattle.std.specs.Prelude.{◌≡◌, ◌+◌, ◌-◌, ◌<◌, ◌≤◌, ◌++◌, [], List, ℕ, length, take, drop, Option, Some, IfOk, IfSome, OnOk, OnErr, IsErrOf, vec_len};
+ghost use Rattle.std.specs.Prelude.{◌≡◌, ◌+◌, ◌-◌, ◌<◌, ◌≤◌, ◌++◌, [], List, ℕ, length, take, drop, vec_len};
+ghost use Rattle.std.specs.Prelude.{Option, Some, IfOk, IfSome, OnOk, OnErr, IsErrOf};
 ghost use Rattle.gp_io.specs.Outside.{Rose, Takes, TakesAtMost};
 ghost use Rattle.gp_io.specs.declared.whole.ReadError.TheVariants.{ReadFault, Memory};
 

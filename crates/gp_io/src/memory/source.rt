@@ -1,4 +1,5 @@
-ghost use Rattle.std.specs.Prelude.{◌≡◌, ℕ, ◌+◌, ◌<◌, ◌≤◌, ◌↔◌, ◌++◌, List, [], length, take, drop, min, Option, Some, IsErr, IfOk, IfSome, OnOk, OnErr};
+ghost use Rattle.std.specs.Prelude.{◌≡◌, ℕ, ◌+◌, ◌<◌, ◌≤◌, ◌↔◌, ◌++◌, List, [], length, take, drop, min};
+ghost use Rattle.std.specs.Prelude.{Option, Some, IsErr, IfOk, IfSome, OnOk, OnErr};
 ghost use Rattle.gp_io.specs.Outside.{Rose, Takes};
 ghost use Rattle.gp_io.specs.InMemory.{unused, IsNextToFail, after_success, after_fault};
 
