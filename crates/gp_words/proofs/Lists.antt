@@ -10,7 +10,7 @@ use Rattle.gp_words.specs.declared.setting.Values.{Values}
 use Rattle.gp_words.specs.declared.setting.Values.TheVariants.{Numbers, Instants, Lists}
 use Rattle.gp_words.specs.declared.choice.Value.{Value}
 use Rattle.gp_words.specs.declared.choice.Value.TheVariants.{Number, Instant, List as Listed}
-use Rattle.gp_words.specs.Table.{IsOneOf}
+use Rattle.gp_words.specs.kept.Sound.{IsOneOf}
 use Rattle.gp_words.specs.Options.{value_of}
 use Rattle.gp_words.specs.Numbers.{is_number, number_in, in_front, numbers_of, pieces_of, picks_of}
 

@@ -10,8 +10,9 @@ use Rattle.gp_words.specs.declared.setting.Setting.TheVariants.{Workers, At, Roo
 use Rattle.gp_words.specs.declared.choice.Choice.{Choice}
 use Rattle.gp_words.specs.declared.choice.Value.{Value}
 use Rattle.gp_words.specs.declared.choice.Value.TheVariants.{Number, Instant, List as Listed}
-use Rattle.gp_words.specs.Table.{values_of, same, IsOneOf}
-use Rattle.gp_words.specs.Options.{times, IsInTable, IsSound}
+use Rattle.gp_words.specs.Table.{values_of, same}
+use Rattle.gp_words.specs.Options.{times}
+use Rattle.gp_words.specs.kept.Sound.{IsOneOf, IsInTable, IsSound}
 use Rattle.gp_words.specs.Settings.{number_value, instant_value, list_value, or_else, number_of, instants_of, list_of, number_or, settings_of}
 use Rattle.gp_words.proofs.Sound.{same_is}
 

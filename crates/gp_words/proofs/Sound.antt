@@ -7,7 +7,8 @@ use Rattle.gp_words.specs.declared.setting.Setting.{Setting}
 use Rattle.gp_words.specs.declared.setting.Setting.TheVariants.{Workers, At, Room, Seed, Cells, Entries, Picks}
 use Rattle.gp_words.specs.declared.choice.Choice.{Choice}
 use Rattle.gp_words.specs.Table.{place_of, same, most_times}
-use Rattle.gp_words.specs.Options.{times, IsInTable, IsSound}
+use Rattle.gp_words.specs.Options.{times}
+use Rattle.gp_words.specs.kept.Sound.{IsInTable, IsSound}
 
 -- the setting at a place of the table
 setting_at : ℕ → Setting

@@ -14,7 +14,8 @@ use Rattle.gp_words.proofs.Lists.{value_in_table}
 use Rattle.gp_words.specs.Words.{texts}
 use Rattle.gp_words.specs.Table.{setting_of, values_of, most_times}
 use Rattle.gp_words.specs.Read.{Read, Names, Faults, and_then, IsFault, Reads}
-use Rattle.gp_words.specs.Options.{value_of, times, place_behind, choice_at, choice_of_setting, choice_of_named, choice_of, options_of, IsInTable}
+use Rattle.gp_words.specs.Options.{value_of, times, place_behind, choice_at, choice_of_setting, choice_of_named, choice_of, options_of}
+use Rattle.gp_words.specs.kept.Sound.{IsInTable}
 
 pub unknown : (taken : List Choice) (word : List ℕ) (value : Option (List ℕ)) → setting_of word ≡ None → choice_of taken word value ≡ Faults (place_behind taken) unknown_option
 unfolding choice_of

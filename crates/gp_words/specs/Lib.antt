@@ -6,3 +6,4 @@ pub mod Read
 pub mod Options
 pub mod Settings
 pub mod Job
+pub mod kept

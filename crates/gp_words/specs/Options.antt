@@ -1,5 +1,5 @@
 -- The options of a command: each is a word and its value.
-use Rattle.std.specs.Prelude.{◌≤◌, ◌+◌, ◌*◌, ℕ, List, [], ◌∷◌, ◌++◌, length, All, Option, Some, None, option_map, count_by, codes, nat_lt, if◌then◌else◌}
+use Rattle.std.specs.Prelude.{◌+◌, ◌*◌, ℕ, List, [], ◌∷◌, ◌++◌, length, Option, Some, None, option_map, count_by, codes, nat_lt, if◌then◌else◌}
 use Rattle.std.specs.Str.{bytes_eq}
 use Rattle.gp_isa.specs.Limits.{most_instant}
 use Rattle.gp_journal.specs.declared.settings.Request.TheVariants.{Clock, End}
@@ -11,7 +11,7 @@ use Rattle.gp_words.specs.declared.choice.Choice.{Choice}
 use Rattle.gp_words.specs.declared.choice.Value.{Value}
 use Rattle.gp_words.specs.declared.choice.Value.TheVariants.{Number, Instant, List as Listed}
 use Rattle.gp_words.specs.Numbers.{number_in, picks_of}
-use Rattle.gp_words.specs.Table.{setting_of, values_of, most_times, same, IsOneOf}
+use Rattle.gp_words.specs.Table.{setting_of, values_of, most_times, same}
 use Rattle.gp_words.specs.Read.{Read, Names, Faults, and_then}
 
 -- the value that a word writes, where it's one of these values
@@ -56,12 +56,3 @@ options_of taken [] = Names taken
 options_of taken (word ∷ []) = and_then (choice_of taken word None) (λ choice. Names (taken ++ choice ∷ []))
 options_of taken (word ∷ value ∷ words) =
     and_then (choice_of taken word (Some value)) (λ choice. options_of (taken ++ choice ∷ []) words)
-
--- A choice's value is one of its setting's values.
-abbrev pub IsInTable : Choice → Type 0
-IsInTable choice = IsOneOf (values_of choice.setting) choice.value
-
--- The options taken lie in the table, and none was given too often.
-pub record IsSound (taken : List Choice) : Type 0 where
-  pub in_table : All IsInTable taken
-  pub at_most : (setting : Setting) → times setting taken ≤ most_times setting

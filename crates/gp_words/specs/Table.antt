@@ -1,14 +1,11 @@
 -- The table of options: their words, their values, and how often each may be given.
-use Rattle.std.specs.Prelude.{◌≤◌, ◌<◌, ◌==◌, ◌^◌, ◌-◌, ℕ, Bool, List, length, All, Option, Some, None, codes, if◌then◌else◌}
+use Rattle.std.specs.Prelude.{◌==◌, ◌^◌, ◌-◌, ℕ, Bool, List, Option, Some, None, codes, if◌then◌else◌}
 use Rattle.std.specs.Str.{bytes_eq}
-use Rattle.gp_isa.specs.Limits.{most_workers, most_requests, most_room, most_cells, least_entries, most_entries, most_picks}
-use Rattle.gp_machine.specs.Settings.{IsInstant}
+use Rattle.gp_isa.specs.Limits.{most_workers, most_requests, most_room, most_cells, least_entries, most_entries}
 use Rattle.gp_words.specs.declared.setting.Setting.{Setting}
 use Rattle.gp_words.specs.declared.setting.Setting.TheVariants.{Workers, At, Room, Seed, Cells, Entries, Picks}
 use Rattle.gp_words.specs.declared.setting.Values.{Values}
 use Rattle.gp_words.specs.declared.setting.Values.TheVariants.{Numbers, Instants, Lists}
-use Rattle.gp_words.specs.declared.choice.Value.{Value}
-use Rattle.gp_words.specs.declared.choice.Value.TheVariants.{Number, Instant, List as Listed}
 
 -- the setting of an option word
 unfoldable pub setting_of : List ℕ → Option Setting
@@ -54,15 +51,3 @@ place_of Picks = 6
 -- whether two settings are one
 abbrev pub same : Setting → Setting → Bool
 same a b = place_of a == place_of b
-
--- A value is one of these values.
-abbrev pub IsOneOf : Values → Value → Type 0
-IsOneOf (Numbers least most) (Number n) = (least ≤ n) × (n ≤ most)
-IsOneOf (Numbers least most) (Instant request) = ⊥
-IsOneOf (Numbers least most) (Listed ns) = ⊥
-IsOneOf Instants (Number n) = ⊥
-IsOneOf Instants (Instant request) = IsInstant request
-IsOneOf Instants (Listed ns) = ⊥
-IsOneOf Lists (Number n) = ⊥
-IsOneOf Lists (Instant request) = ⊥
-IsOneOf Lists (Listed ns) = (length ns ≤ most_picks) × All (λ n. n < 2 ^ 32) ns

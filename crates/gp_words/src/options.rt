@@ -3,7 +3,8 @@ ghost use Rattle.std.specs.Option.{option_map};
 ghost use Rattle.gp_words.specs.Words.{texts};
 ghost use Rattle.gp_words.specs.Read.{Reads};
 ghost use Rattle.gp_words.specs.declared.setting.Values.TheVariants.{Instants};
-ghost use Rattle.gp_words.specs.Options.{value_of, times, choice_of, options_of, IsSound};
+ghost use Rattle.gp_words.specs.Options.{value_of, times, choice_of, options_of};
+ghost use Rattle.gp_words.specs.kept.Sound.{IsSound};
 
 use crate::cause::{BAD_NUMBER, MISSING, TWICE, UNKNOWN_OPTION};
 use crate::choice::{Choice, Choices, Value};

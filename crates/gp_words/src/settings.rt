@@ -1,6 +1,6 @@
 ghost use Rattle.std.specs.Prelude.{◌≡◌, IfOk};
 ghost use Rattle.gp_machine.specs.Settings.{AreInRange};
-ghost use Rattle.gp_words.specs.Options.{IsSound};
+ghost use Rattle.gp_words.specs.kept.Sound.{IsSound};
 ghost use Rattle.gp_words.specs.Settings.{number_or, instants_of, list_of, settings_of};
 
 use crate::choice::{Choice, Choices, Value};

@@ -2,7 +2,8 @@ use Rattle.std.proofs.Common.{◌≡◌, [], ◌∷◌, ◌++◌, option_map, st
 use Rattle.std.specs.Slice.Iter.{iter_rest}
 use Rattle.gp_words.specs.Words.{texts}
 use Rattle.gp_words.specs.Read.{Names, IsFault}
-use Rattle.gp_words.specs.Options.{choice_of, options_of, IsSound}
+use Rattle.gp_words.specs.Options.{choice_of, options_of}
+use Rattle.gp_words.specs.kept.Sound.{IsSound}
 use Rattle.gp_words.proofs.Sound.{more_sound}
 use Rattle.gp_words.proofs.Taking.{behind_word, right, none_left, first_fault, first_right, second, carried}
 use Rattle.gp_words.proofs.options.options.Goals as goal

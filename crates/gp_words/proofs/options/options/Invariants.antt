@@ -1,7 +1,8 @@
 use Rattle.std.proofs.Common.{◌≡◌, [], length}
 use Rattle.std.specs.Slice.Iter.{iter_rest}
 use Rattle.gp_words.specs.Words.{texts}
-use Rattle.gp_words.specs.Options.{options_of, IsSound}
+use Rattle.gp_words.specs.Options.{options_of}
+use Rattle.gp_words.specs.kept.Sound.{IsSound}
 use Rattle.gp_words.proofs.options.options.Given as goal
 
 abbrev pub invariant-loop-word : goal.invariant-loop-word
