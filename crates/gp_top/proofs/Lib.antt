@@ -1,3 +1,4 @@
 pub mod Reporting
 pub mod Loading
 pub mod Saving
+pub mod Heading

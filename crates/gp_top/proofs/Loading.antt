@@ -9,7 +9,7 @@ use Rattle.gp_text.specs.declared.error.TextError.TheVariants as text
 use Rattle.gp_text.specs.Reading.{program_of, IsRefusalOf}
 use Rattle.gp_top.specs.declared.load.LoadError.{LoadError}
 use Rattle.gp_top.specs.declared.load.LoadError.TheVariants as load
-use Rattle.gp_top.specs.Errors.{load_of_read, load_of_text}
+use Rattle.gp_top.specs.kept.Steps.{load_of_read, load_of_text}
 use Rattle.gp_top.specs.Top.{GiveNoProgram, IsRefused, IsReadWhole}
 
 too_long : (held : Option (List ℕ)) → IfSome held (λ all. 1048576 < length all) → IsRefused held

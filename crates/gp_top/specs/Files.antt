@@ -1,7 +1,7 @@
 -- The files that a run puts.
-use Rattle.std.specs.Prelude.{◌≡◌, ℕ, suc, List, [], ◌∷◌, ◌++◌, take, Option, Some, None, codes}
+use Rattle.std.specs.Prelude.{◌≡◌, ◌≤◌, ℕ, suc, List, [], ◌∷◌, ◌++◌, length, take, Option, Some, None, codes}
 use Rattle.std.specs.Fmt.{decimal}
-use Rattle.gp_io.specs.Outside.{File, with_file, KeepsOthers}
+use Rattle.gp_io.specs.Outside.{File, with_file, KeepsOthers, RoseBy}
 use Rattle.gp_isa.specs.declared.parts.Parts.{Parts}
 use Rattle.gp_stack.specs.declared.record.Record.{Record as Row}
 use Rattle.gp_wire.specs.Canonical.{canon}
@@ -32,17 +32,22 @@ abbrev pub Gains : Option (List File) → List File → Option (List File) → T
 Gains None files after = Unit {0}
 Gains (Some held) files after = after ≡ Some (with_files held files)
 
--- The store gained the first few of the files whole, and then nothing.
-pub record GainsSome (before : Option (List File)) (files : List File) (after : Option (List File)) : Type 0 where
-  pub n : ℕ
-  pub gained : Gains before (take n files) after
+-- What a store tells: its files, and how many puts it was asked for.
+abbrev pub Told : Type 0
+Told = Option (List File) × Option ℕ
 
--- The store gained the first few of the files whole, and then failed at the next one. Of what stands under the name of
--- that one nothing is said.
-pub record FailsAtNext (before : Option (List File)) (files : List File) (after : Option (List File)) : Type 0 where
-  pub n : ℕ
+-- The store gained the first n of the files, whole, by a put for each.
+pub record GainsFirst (n : ℕ) (files : List File) (before after : Told) : Type 0 where
+  pub few : n ≤ length files
+  pub gained : Gains before.0 (take n files) after.0
+  pub asked : RoseBy n before.1 after.1
+
+-- The store gained the first n of the files, whole, by a put for each, and then failed at the put of the next one, behind
+-- which it was asked for none. Of what stands under the name of that one nothing is said.
+pub record FailsAtNext (n : ℕ) (files : List File) (before after : Told) : Type 0 where
   pub next : File
   pub mid : Option (List File)
   pub is_next : take (suc n) files ≡ take n files ++ next ∷ []
-  pub gained : Gains before (take n files) mid
-  pub others_kept : KeepsOthers mid next.0 after
+  pub gained : Gains before.0 (take n files) mid
+  pub others_kept : KeepsOthers mid next.0 after.0
+  pub asked : RoseBy (suc n) before.1 after.1

@@ -1,5 +1,6 @@
 pub mod Report
+pub mod Exit
 pub mod Status
 pub mod Files
 pub mod Top
-pub mod Errors
+pub mod kept

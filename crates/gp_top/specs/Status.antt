@@ -10,18 +10,18 @@ use Rattle.gp_machine.specs.Run.{last}
 use Rattle.gp_sim.specs.Choice.{sim_journal}
 use Rattle.gp_top.specs.declared.report.Report.{Report}
 use Rattle.gp_top.specs.Report.{refusals}
-use Rattle.gp_top.specs.declared.status.TheConstants.{DONE, FAULT, DEADLOCK, PROFILE_REFUSED, FULL}
+use Rattle.gp_top.specs.Exit.{exit_done, exit_fault, exit_deadlock, exit_profile_refused, exit_full}
 
 -- A run that ended by `main` is done, unless a profile was refused.
 abbrev pub status_by_main : List (ℕ × ℕ) → ℕ
-status_by_main [] = DONE
-status_by_main (one ∷ more) = PROFILE_REFUSED
+status_by_main [] = exit_done
+status_by_main (one ∷ more) = exit_profile_refused
 
 -- The status that tells how a run ended.
 abbrev pub status_of_end : List (ℕ × ℕ) → Ended → ℕ
-status_of_end refused (ended.Fault cause) = FAULT
-status_of_end refused ended.Full = FULL
-status_of_end refused ended.Deadlock = DEADLOCK
+status_of_end refused (ended.Fault cause) = exit_fault
+status_of_end refused ended.Full = exit_full
+status_of_end refused ended.Deadlock = exit_deadlock
 status_of_end refused ended.Main = status_by_main refused
 
 -- The status of a run by its report.

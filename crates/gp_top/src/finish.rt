@@ -1,8 +1,10 @@
 ghost use Rattle.std.specs.Prelude.{◌≡◌, ◌≢◌};
 ghost use Rattle.gp_io.specs.Outside.{Rose};
+ghost use Rattle.gp_top.specs.Exit.{exit_put_fault, exit_memory};
 ghost use Rattle.gp_top.specs.Files.{files_of};
 ghost use Rattle.gp_top.specs.Status as definition;
-ghost use Rattle.gp_top.specs.Top.{ArePut, IsAfterRun};
+ghost use Rattle.gp_top.specs.Top.{ArePut};
+ghost use Rattle.gp_top.specs.kept.Steps.{IsAfterRun};
 
 use crate::report::Report;
 use crate::save::{SaveError, put_profiles};
@@ -38,9 +40,11 @@ pub(crate) fn finish<K: Store>(
     report: &Report,
     store: &mut K,
 ) -> u8
-    ensures put { ArePut (K.files store.old) (K.files store.new) (files_of program.now file.now report.now.goroutine_records) (definition.status_of report.now) result }
-    ensures fault { result ≡ PUT_FAULT → Rose (K.faults store.old) (K.faults store.new) }
-    ensures well { result ≢ PUT_FAULT → K.faults store.new ≡ K.faults store.old }
+    ensures put { ArePut (files_of program.now file.now report.now.goroutine_records)
+        (K.files store.old, K.asked store.old) (K.files store.new, K.asked store.new) (definition.status_of report.now) result }
+    ensures told { result ≢ exit_put_fault → result ≢ exit_memory → result ≡ definition.status_of report.now }
+    ensures fault { result ≡ exit_put_fault → Rose (K.faults store.old) (K.faults store.new) }
+    ensures well { result ≢ exit_put_fault → K.faults store.new ≡ K.faults store.old }
     ensures after_run { IsAfterRun result }
 {
     match put_profiles(alloc, program, file, &report.goroutine_records, store) {

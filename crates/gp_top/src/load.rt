@@ -3,12 +3,9 @@ ghost use Rattle.gp_io.specs.Outside.{Rose};
 ghost use Rattle.gp_top.specs.Top.{IsAccepted, IsRefused, IsReadWhole};
 
 use gp_io::{ReadError, Source, read_all};
-use gp_isa::Program;
+use gp_isa::{Program, limits};
 use gp_text::{TextError, read};
 use std::alloc::Global;
-
-// The most bytes of a program file.
-const LIMIT: usize = 1_048_576;
 
 /// Why the source gave no program.
 #[derive(Clone, Copy, Debug, PartialEq, Eq)]
@@ -22,7 +19,7 @@ pub(crate) enum LoadError {
 
 impl From<ReadError> for LoadError {
     ghost use Rattle.std.specs.Prelude.{◌≡◌};
-    ghost use Rattle.gp_top.specs.Errors.{load_of_read};
+    ghost use Rattle.gp_top.specs.kept.Steps.{load_of_read};
 
     ghost from_gives = { λ error made. made ≡ load_of_read error };
 
@@ -37,7 +34,7 @@ impl From<ReadError> for LoadError {
 
 impl From<TextError> for LoadError {
     ghost use Rattle.std.specs.Prelude.{◌≡◌};
-    ghost use Rattle.gp_top.specs.Errors.{load_of_text};
+    ghost use Rattle.gp_top.specs.kept.Steps.{load_of_text};
 
     ghost from_gives = { λ error made. made ≡ load_of_text error };
 
@@ -59,6 +56,6 @@ pub(crate) fn load<S: Source>(alloc: Global, source: &mut S) -> Result<Program, 
     ensures fault { IsErrOf result LoadError.ReadFault → Rose (S.faults source.old) (S.faults source.new) }
     ensures well { (IsErrOf result LoadError.ReadFault → ⊥) → S.faults source.new ≡ S.faults source.old }
 {
-    let bytes = read_all(alloc, source, LIMIT)?;
+    let bytes = read_all(alloc, source, limits::FILE_BYTES)?;
     Ok(read(alloc, bytes.as_slice())?)
 }

@@ -57,7 +57,8 @@ fn instructions<R: Run>(
 ) -> Result<Counts, Memory>
     requires settings { settings.now ≡ R.settings }
     requires range { AreInRange settings.now }
-    ensures { IfOk result (λ done. done ≡ map (λ (worker : Worker). worker.instructions) (last (code_of R.program) R.settings machine.now).workers) }
+    ensures { IfOk result (λ done.
+        done ≡ map (λ (worker : Worker). worker.instructions) (last (code_of R.program) R.settings machine.now).workers) }
 {
     let _ = machine.journal();
     let mut done = Vec::new(alloc);

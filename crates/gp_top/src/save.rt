@@ -1,9 +1,9 @@
-ghost use Rattle.std.specs.Prelude.{◌≡◌, ◌<◌, ◌+◌, ◌^◌, OnOk, IsErrOf, IfOk, string_bytes};
-ghost use Rattle.gp_io.specs.Outside.{Rose, Puts, KeepsOthers};
+ghost use Rattle.std.specs.Prelude.{◌≡◌, ◌<◌, ◌+◌, ◌^◌, ℕ, OnOk, IsErrOf, IfOk, length, string_bytes};
+ghost use Rattle.gp_io.specs.Outside.{Rose, RoseBy, Puts, KeepsOthers};
 ghost use Rattle.gp_wire.specs.Canonical.{canon};
 ghost use Rattle.gp_build.specs.Profile.{goroutine_profile_of};
 ghost use Rattle.gp_top.specs.Files as definition;
-ghost use Rattle.gp_top.specs.Files.{files_of, Gains, GainsSome, FailsAtNext};
+ghost use Rattle.gp_top.specs.Files.{files_of, GainsFirst, FailsAtNext};
 
 use gp_build::goroutine_profile;
 use gp_io::{Failed, Store};
@@ -58,10 +58,14 @@ fn put_profile<K: Store>(
     records: &Records,
     store: &mut K,
 ) -> Result<(), SaveError>
-    ensures put { OnOk result (Puts (K.files store.old) (definition.profile_name epoch) (canon (goroutine_profile_of program.now file.now records.now)) (K.files store.new)) }
+    ensures put { OnOk result (Puts (K.files store.old) (definition.profile_name epoch)
+        (canon (goroutine_profile_of program.now file.now records.now)) (K.files store.new)) }
     ensures well { OnOk result (K.faults store.new ≡ K.faults store.old) }
+    ensures asked { OnOk result (RoseBy 1 (K.asked store.old) (K.asked store.new)) }
     ensures fault { IsErrOf result SaveError.PutFault → Rose (K.faults store.old) (K.faults store.new) }
-    ensures others { IsErrOf result SaveError.PutFault → KeepsOthers (K.files store.old) (definition.profile_name epoch) (K.files store.new) }
+    ensures others { IsErrOf result SaveError.PutFault
+        → KeepsOthers (K.files store.old) (definition.profile_name epoch) (K.files store.new) }
+    ensures asked_in_vain { IsErrOf result SaveError.PutFault → RoseBy 1 (K.asked store.old) (K.asked store.new) }
     ensures memory { IsErrOf result SaveError.Memory → store.new ≡ store.old }
 {
     let name = profile_name(alloc, epoch)?;
@@ -79,11 +83,15 @@ pub(crate) fn put_profiles<K: Store>(
     profiles: &Profiles,
     store: &mut K,
 ) -> Result<(), SaveError>
-    ensures gained { OnOk result (Gains (K.files store.old) (files_of program.now file.now profiles.now) (K.files store.new)) }
-    ensures well { (IsErrOf result SaveError.PutFault → ⊥) → K.faults store.new ≡ K.faults store.old }
+    ensures all { OnOk result (let files = files_of program.now file.now profiles.now in
+        GainsFirst (length files) files (K.files store.old, K.asked store.old) (K.files store.new, K.asked store.new)) }
+    ensures fails { IsErrOf result SaveError.PutFault → (n : ℕ) × FailsAtNext n (files_of program.now file.now profiles.now)
+        (K.files store.old, K.asked store.old) (K.files store.new, K.asked store.new) }
+    ensures memory { IsErrOf result SaveError.Memory → (n : ℕ) × GainsFirst n (files_of program.now file.now profiles.now)
+        (K.files store.old, K.asked store.old) (K.files store.new, K.asked store.new) }
+
     ensures fault { IsErrOf result SaveError.PutFault → Rose (K.faults store.old) (K.faults store.new) }
-    ensures fails { IsErrOf result SaveError.PutFault → FailsAtNext (K.files store.old) (files_of program.now file.now profiles.now) (K.files store.new) }
-    ensures memory { IsErrOf result SaveError.Memory → GainsSome (K.files store.old) (files_of program.now file.now profiles.now) (K.files store.new) }
+    ensures well { (IsErrOf result SaveError.PutFault → ⊥) → K.faults store.new ≡ K.faults store.old }
 {
     for (at, records) in profiles.as_slice().iter().enumerate() {
         put_profile(alloc, program, file, at + 1, records, store)?;

@@ -1,5 +1,6 @@
 ghost use Rattle.std.specs.Prelude.{◌≡◌, ◌≢◌, ◌≤◌, ◌⊎◌, List, ℕ, length, Some, IfSome, None};
 ghost use Rattle.gp_io.specs.Outside.{Rose};
+ghost use Rattle.gp_isa.specs.Limits.{file_bytes};
 ghost use Rattle.gp_isa.specs.declared.parts.Parts.{Parts};
 ghost use Rattle.gp_journal.specs.declared.settings.Settings.{Settings};
 ghost use Rattle.gp_words.specs.Words.{texts};
@@ -7,6 +8,7 @@ ghost use Rattle.gp_words.specs.declared.jobs.Job.TheVariants.{Sim};
 ghost use Rattle.gp_words.specs.Job.{job_of};
 ghost use Rattle.gp_words.specs.Read.{Names};
 ghost use Rattle.gp_text.specs.Reading.{program_of, Gives};
+ghost use Rattle.gp_top.specs.Exit.{exit_usage, exit_refused, exit_read_fault, exit_put_fault, exit_memory};
 ghost use Rattle.gp_top.specs.Status.{status_of_run};
 ghost use Rattle.gp_top.specs.Top.{GiveNoJob, HaveJob, IsAccepted, IsRefused, IsReadWhole, IsRun, IsRefusal, IsWithoutReport};
 
@@ -50,7 +52,8 @@ pub fn plain_top<S: Source, K: Store, O: Sink>(
 ) -> Outcome
     // The headline: where there is a report, it is that of the run of the program that is all that the source held, under
     // the options that the words give, and the files put are that run's.
-    ensures headline { IfSome result.report (IsRun (texts words.now) (S.left source.old) (K.files store.old) (K.files store.new) result.status) }
+    ensures headline { IfSome result.report (IsRun (texts words.now) (S.left source.old)
+        (K.files store.old, K.asked store.old) (K.files store.new, K.asked store.new) result.status) }
 
     // Where there is none, the status is 1, 2, 3 or 9, and nothing was put. On 1, 2 and 3 there is none.
     ensures no_report { result.report ≡ None → IsWithoutReport result.status }
@@ -58,34 +61,35 @@ pub fn plain_top<S: Source, K: Store, O: Sink>(
     ensures refusal { IsRefusal result.status → result.report ≡ None }
 
     // Status 1: exactly where the words give no job. Then nothing was read.
-    ensures usage { result.status ≡ USAGE → GiveNoJob (texts words.now) }
-    ensures job { result.status ≢ USAGE → result.status ≢ MEMORY → HaveJob (texts words.now) }
-    ensures unread { result.status ≡ USAGE → source.new ≡ source.old }
+    ensures usage { result.status ≡ exit_usage → GiveNoJob (texts words.now) }
+    ensures job { result.status ≢ exit_usage → result.status ≢ exit_memory → HaveJob (texts words.now) }
+    ensures unread { result.status ≡ exit_usage → source.new ≡ source.old }
 
     // Status 2: exactly where the bytes are no program, or too many, since where there is a report they are a program and
     // not too many. In both cases the source was read to its end, or past the limit.
-    ensures refused { result.status ≡ REFUSED → IsRefused (S.left source.old) }
-    ensures refused_whole { result.status ≡ REFUSED → IsReadWhole (S.left source.old) (S.left source.new) }
+    ensures refused { result.status ≡ exit_refused → IsRefused (S.left source.old) }
+    ensures refused_whole { result.status ≡ exit_refused → IsReadWhole (S.left source.old) (S.left source.new) }
     ensures reported_whole { IfSome result.report (λ _. IsReadWhole (S.left source.old) (S.left source.new)) }
 
     // Status 3: only where the source's count rose. On every other status it didn't.
-    ensures read_fault { result.status ≡ READ_FAULT → Rose (S.faults source.old) (S.faults source.new) }
-    ensures read_well { result.status ≢ READ_FAULT → S.faults source.new ≡ S.faults source.old }
+    ensures read_fault { result.status ≡ exit_read_fault → Rose (S.faults source.old) (S.faults source.new) }
+    ensures read_well { result.status ≢ exit_read_fault → S.faults source.new ≡ S.faults source.old }
 
     // Status 4: only where the store's count rose. On every other status it didn't.
-    ensures put_fault { result.status ≡ PUT_FAULT → Rose (K.faults store.old) (K.faults store.new) }
-    ensures put_well { result.status ≢ PUT_FAULT → K.faults store.new ≡ K.faults store.old }
+    ensures put_fault { result.status ≡ exit_put_fault → Rose (K.faults store.old) (K.faults store.new) }
+    ensures put_well { result.status ≢ exit_put_fault → K.faults store.new ≡ K.faults store.old }
 
     // The sink is as before on every status.
     ensures nothing_written { out.new ≡ out.old }
 
     // With right words, a right file and no fault the status tells how the run ended, unless memory runs out. How it ends
     // is told by the program and the options.
-    ensures complete { (file bytes : List ℕ) (settings : Settings) (program : Parts) → job_of (texts words.now) ≡ Names (Sim file settings)
-        → S.left source.old ≡ Some bytes → length bytes ≤ 1048576 → program_of bytes ≡ Gives program
+    ensures complete { (file bytes : List ℕ) (settings : Settings) (program : Parts)
+        → job_of (texts words.now) ≡ Names (Sim file settings)
+        → S.left source.old ≡ Some bytes → length bytes ≤ file_bytes → program_of bytes ≡ Gives program
         → (Rose (S.faults source.old) (S.faults source.new) → ⊥)
         → (Rose (K.faults store.old) (K.faults store.new) → ⊥)
-        → (result.status ≡ status_of_run program settings) ⊎ (result.status ≡ MEMORY) }
+        → (result.status ≡ status_of_run program settings) ⊎ (result.status ≡ exit_memory) }
 {
     // (it has no effect: a `&mut` that is never used has no value in the clauses)
     let _ = &*out;

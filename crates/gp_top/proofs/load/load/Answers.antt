@@ -11,7 +11,8 @@ returns-in_err-bytes-clause-refused g c =
 pub returns-in_err-read-clause-refused : goal.returns-in_err-read-clause-refused
 returns-in_err-read-clause-refused g c =
     let p = err_from_is_err_and c.from_residual-in_err-read.result c.from_residual-in_err-read.ensures.1 in
-    λ is. refused_text (g.S.Source.left c.args.source.now) c.in_ok-bytes.bytes c.in_err-read.field-0.0 p.0 c.in_ok-bytes.ensures.all p.2 (rw (sym c.as_slice.ensures) c.in_err-read.ensures.refused) (same_err c.from_residual-in_err-read.result p.0 _ p.1 is)
+    λ is. refused_text (g.S.Source.left c.args.source.now) c.in_ok-bytes.bytes c.in_err-read.field-0.0 p.0 c.in_ok-bytes.ensures.all p.2
+    (rw (sym c.as_slice.ensures) c.in_err-read.ensures.refused) (same_err c.from_residual-in_err-read.result p.0 _ p.1 is)
 
 pub returns-in_err-read-clause-refused_whole : goal.returns-in_err-read-clause-refused_whole
 returns-in_err-read-clause-refused_whole g c = λ _.
