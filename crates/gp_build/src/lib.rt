@@ -5,6 +5,23 @@
 //! and values. Samples stand in the profile as they are given: it neither groups nor orders them, since each profile of
 //! Go's has a rule of its own for that. [`goroutine_profile`] makes the samples of records, and their profile.
 //!
+//! Here `main`, whose header stands in line 2 of `a.gp`, has spawned `f` (line 7) twice and works. Both `f` wait.
+//!
+//! ```text
+//! records                 counted, in order       samples, of goroutine/count
+//! g 0   main:5   set 0    f:8      2              stack [f:8]      set 0   values [2]
+//! g 1   f:8      set 0    main:5   1              stack [main:5]   set 0   values [1]
+//! g 2   f:8      set 0
+//!
+//! strings                 locations               messages
+//! 0   ""                  1   f:8                 sample     locations [1], values [2]
+//! 1   "goroutine"         2   main:5              sample     locations [2], values [1]
+//! 2   "count"                                     location   1: function 1, line 8
+//! 3   "f"                 functions               location   2: function 2, line 5
+//! 4   "a.gp"              1   f                   function   1: name 3, filename 4, start line 7
+//! 5   "main"              2   main                function   2: name 5, filename 4, start line 2
+//! ```
+//!
 //! **Any profile.** One walk over the samples, site by site from the leaf, numbers what it meets in the order of first
 //! need: texts, from 0, the empty one first; locations, one for each site, and functions, from 1 (`tables`, over the
 //! keys of `need` and `site`). A site is a line of a function, and that function one of the program or the one that
@@ -14,11 +31,11 @@
 //! their number (`samples`, over the keys of `shown`). The samples are put in order, falling value, then stack, then
 //! labels (`compare`).
 //!
-//! The profile that has to come out is a definition over lists: any profile in `specs/Message.antt`, where a number is a
-//! place in the list of what was seen first (`specs/FirstNeed.antt`, `specs/Numbers.antt`); the goroutine profile in
+//! The profile that has to come out is a definition over lists: any profile in `specs/Message.antt`, where a number is
+//! a place in the list of what was seen first (`specs/FirstNeed.antt`, `specs/Numbers.antt`); the goroutine profile in
 //! `specs/Profile.antt`, where groups are filters and counts and an order is insertion one by one
-//! (`specs/Samples.antt`). The code has maps in insertion order and one stable sort, so its time grows with the number of
-//! records and sites, and that of the sort besides.
+//! (`specs/Samples.antt`). The code has maps in insertion order and one stable sort, so its time grows with the number
+//! of records and sites, and that of the sort besides.
 //!
 //! The empty text has number 0, which in a label says that there is no text. So the empty value of a label is a text of
 //! its own in the string table, which is empty too.
@@ -40,6 +57,3 @@ pub use building::profile;
 pub use goroutine::goroutine_profile;
 pub use sample::{Header, Kind, Kinds, StackSample};
 pub use site::{Routine, Site, Sites};
-
-#[cfg(test)]
-mod tests;

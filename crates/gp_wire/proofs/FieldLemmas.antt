@@ -20,6 +20,8 @@ spelled-append xs ys = flat_map-append field_bytes xs ys
 pub ruleset spelled_steps = (spelled-nil, spelled-append, append_assoc, append-nil)
 
 -- One more item of a repeated field is appended.
-pub spelled_more : {X : Type 0} (f : X → Field) (out : List ℕ) (items : List X) (i : ℕ) (x : X) → i < length items → (out ++ spelled (map f (take i items))) ++ spelled (f (get_or items i x) ∷ []) ≡ out ++ spelled (map f (take (i + 1) items))
+pub spelled_more : {X : Type 0} (f : X → Field) (out : List ℕ) (items : List X) (i : ℕ) (x : X) → i < length items
+    → (out ++ spelled (map f (take i items))) ++ spelled (f (get_or items i x) ∷ []) ≡ out ++ spelled (map f (take (i + 1) items))
 spelled_more f out items i x lt =
-    append_assoc out (spelled (map f (take i items))) (spelled (f (get_or items i x) ∷ [])) ∙ ap (λ (bytes : List ℕ). out ++ bytes) (rw (take_more items i x lt, map-append, spelled-append) refl)
+    append_assoc out (spelled (map f (take i items))) (spelled (f (get_or items i x) ∷ []))
+    ∙ ap (λ (bytes : List ℕ). out ++ bytes) (rw (take_more items i x lt, map-append, spelled-append) refl)

@@ -1,7 +1,8 @@
 //! Which fields each message of `profile.proto` has, and under which numbers.
 #![tactic(auto, using(crate::proofs::FieldLemmas::spelled_steps))]
 
-ghost use Rattle.gp_wire.specs.Canonical.{value_type_fields, sample_fields, label_fields, location_fields, line_fields, function_fields, profile_fields};
+ghost use Rattle.gp_wire.specs.Canonical.{value_type_fields, sample_fields, label_fields, location_fields};
+ghost use Rattle.gp_wire.specs.Canonical.{line_fields, function_fields, profile_fields};
 
 use crate::encoding::{put_number, put_signed, put_values, put_words};
 use crate::message::{Message, put_messages, put_optional, put_texts};

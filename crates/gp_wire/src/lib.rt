@@ -28,6 +28,3 @@ pub use profile::{
     Strings, ValueType, ValueTypes, Values, Words,
 };
 pub use writing::write;
-
-#[cfg(test)]
-mod tests;
