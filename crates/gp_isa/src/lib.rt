@@ -45,6 +45,3 @@ pub use program::{Program, check};
 pub use sequence::{Content, Sequence};
 pub use statement::{Stmt, Stmts, What};
 pub use text::Text;
-
-#[cfg(test)]
-mod tests;

@@ -31,6 +31,3 @@ pub use gp_isa::Frame;
 pub use peek::{Peek, Then};
 pub use record::{Profiles, Record, Records, Stack};
 pub use statement::Operation;
-
-#[cfg(test)]
-mod tests;

@@ -22,6 +22,3 @@ mod wait_lists;
 
 pub use effect::{Effect, Waiter};
 pub use wait_lists::WaitLists;
-
-#[cfg(test)]
-mod tests;

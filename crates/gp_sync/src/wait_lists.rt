@@ -277,18 +277,3 @@ impl WaitLists {
         }
     }
 }
-
-// Wait lists of channels with such capacities, and of so many mutexes.
-#[cfg(test)]
-pub fn of_capacities(
-    alloc: Global,
-    capacities: &[u32],
-    mutexes: usize,
-    cells: u32,
-) -> Result<WaitLists, Memory>
-    requires channels { length capacities.now ≤ most_channels }
-    requires mutexes { mutexes ≤ most_mutexes }
-    ensures { IfOk result (λ lists. lists ≡ empty_lists cells capacities.now mutexes) }
-{
-    WaitLists::empty(alloc, Vec::from_slice(alloc, capacities)?, mutexes, cells)
-}

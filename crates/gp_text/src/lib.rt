@@ -36,6 +36,3 @@ mod verb;
 pub use cause::Cause;
 pub use error::TextError;
 pub use reading::read;
-
-#[cfg(test)]
-mod tests;

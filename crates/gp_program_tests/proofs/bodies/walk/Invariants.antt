@@ -1,6 +1,6 @@
 -- The body stands in the program.
 use Rattle.gp_stack.specs.Body.{StandsIn}
-use Rattle.gp_stack.proofs.tests.walk.walk.Given as goal
+use Rattle.gp_program_tests.proofs.bodies.walk.Given as goal
 
 abbrev pub invariant-loop-left : goal.invariant-loop-left
 invariant-loop-left l = StandsIn l.program l.body

@@ -3,7 +3,7 @@ use Rattle.gp_isa.specs.Trace.{trace}
 use Rattle.gp_stack.specs.Body.{Progress}
 use Rattle.gp_stack.specs.Peek.{then_at}
 use Rattle.gp_stack.proofs.Conditions.{at_shared}
-use Rattle.gp_stack.proofs.tests.walk.walk.Goals as goal
+use Rattle.gp_program_tests.proofs.bodies.walk.Goals as goal
 
 pub pass-requires-clause-shared : goal.pass-requires-clause-shared
 pass-requires-clause-shared c =

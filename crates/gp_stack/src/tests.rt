@@ -1,3 +1,0 @@
-mod bodies;
-mod build;
-mod walk;
