@@ -47,3 +47,13 @@ pub use Rattle.gp_journal.proofs.Places.{changed, pushed, replaced, replaced_wit
 -- How often a goroutine stands in a list, with one more at its head or its tail, and without one.
 pub use Rattle.gp_journal.proofs.InLine.{place, without, times-cons, times_push, one_at, none_at, other_than}
 pub use Rattle.gp_journal.proofs.InLine.{head_below, length-without, times_without, without_head, without_other, length-of_different}
+-- One legal entry more; what entries do to the active profile and to the last epoch.
+pub use Rattle.gp_journal.proofs.Recorded.{appended, OpensNone, keeps_last, opened_active, opened_last, recorded_active, closed_active}
+-- The records of profiles: how they grow, how many there are, that they are frozen; the last list, with one row more.
+pub use Rattle.gp_journal.proofs.Recorded.{records_grow, records_are_counted, some_records, records_are_frozen, last_is, with_row_last, last_grown}
+-- How the bodies of a state's goroutines move with an entry, and who is born by an Op.
+pub use Rattle.gp_journal.proofs.Following.{leaves_bodies, stays, follows_run, Moved, follows_op, op_shared, op_not_plain, Bears, op_bears, born_there, main_there, first_bodies}
+-- What bodies tell of their goroutines: who has one, what is ahead, the next point, and the row.
+pub use Rattle.gp_journal.proofs.BodiesTell.{has_body, runner_live, run_ahead, op_at_shared, point_is, row_is, bodies_follow, bodies_gain, nobody_born}
+-- One of some bodies moves on.
+pub use Rattle.gp_journal.proofs.MovedOn.{moved, as_many}

@@ -23,4 +23,10 @@ pub mod Lengths
 pub mod Naming
 pub mod Unrecorded
 pub mod EachEntry
+pub mod Recorded
+pub mod Framed
+pub mod RecordsNamed
+pub mod Following
+pub mod BodiesTell
+pub mod MovedOn
 pub mod Lemmas

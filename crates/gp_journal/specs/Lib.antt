@@ -10,6 +10,11 @@ pub mod Waiting
 pub mod Standing
 pub mod Actors
 pub mod Reached
+pub mod Shown
+pub mod Bodies
+pub mod Profiles
+pub mod ProfilesLaw
+pub mod RecordsNamed
 pub mod JournalLaw
 pub mod RunLaws
 pub mod NumberLaws

@@ -2,6 +2,8 @@ ghost use Rattle.gp_journal.specs.State.{code_of};
 ghost use Rattle.gp_journal.specs.JournalLaw.{EpochsHold, UnrecordedStand, RowsAreFrozen, UnrecordedAddUp};
 ghost use Rattle.gp_journal.specs.RunLaws.{PrefixesAreLegal, BornInOrder, StatusesMatchWorkers, QueueHoldsRunnable, EachWaitsOnce, WaitListsTellClocks, RefuseLeavesAll, RunsEndOneWay};
 ghost use Rattle.gp_journal.specs.NumberLaws.{EntriesAreCounted, NumbersHold, EntriesAreBounded, ClocksAreBelow, EpochsAreOrdered};
+ghost use Rattle.gp_journal.specs.ProfilesLaw.{RecordsGrow, RecordsAreCounted, RecordsAreFrozen};
+ghost use Rattle.gp_journal.specs.RecordsNamed.{RecordsAreThere};
 ghost use Rattle.gp_journal.specs.StepLaws.{OthersStay, EpochsStay, QueueAfter, OverStays, NothingAfterComplete};
 ghost use Rattle.gp_journal.specs.Worked.{SmallestProgram, smallest, WokenBetween, wake, RoomForTwo, pair, ContendedMutex, contended, Deadlocks, deadlocked, FaultOfUnlock, faulty, Ticks, six, FullJournal, long};
 
@@ -13,6 +15,16 @@ pub fn law_journal()
     ensures unrecorded { UnrecordedStand }
     ensures rows { RowsAreFrozen }
     ensures add_up { UnrecordedAddUp }
+{}
+
+/// The records of the goroutine profiles of every legal journal of every program: how they grow with each entry, how
+/// many there are, that they show what was there as each profile was opened once none is active, and, where the
+/// program's parts lie in their limits, that the functions of their frames and their label sets are there.
+pub fn law_records()
+    ensures grow { RecordsGrow }
+    ensures counted { RecordsAreCounted }
+    ensures frozen { RecordsAreFrozen }
+    ensures there { RecordsAreThere }
 {}
 
 /// Laws of legal journals: prefixes, births in order, on which worker a goroutine runs, who stands in the queue, waits

@@ -20,7 +20,9 @@
 //! so the rows taken at the Record entries are, sorted, the rows of all goroutines live at the Open, each once.
 //! `law_runs` and `law_numbers` have the other laws: prefixes, births, who runs on which worker, who stands in the queue,
 //! waits, refusals, ends, bounds on entries, clock, slices, births and epochs, and the order of clocks and of epochs.
-//! `law_entries` says what single entries leave, and what they do to the queue.
+//! `law_entries` says what single entries leave, and what they do to the queue. `law_records`: the records of each
+//! profile (`Profiles`), the rows of its Record entries in their order, which sorted are the frozen rows at its Open.
+//! `Bodies` says where bodies stand that stand where their goroutines do, and `Shown` what they show of them.
 //! Crates above take their lemmas from `proofs/Lemmas.antt` alone.
 #![tactic(auto)]
 
@@ -34,6 +36,6 @@ mod settings;
 pub use answer::{Applied, Foreseen, SharedPoint, Wait, Woken};
 pub use entry::{Counts, Ended, Entry, Journal, Refusals};
 pub use goroutine::{Goroutine, Status, Worker};
-pub use laws::{law_entries, law_journal, law_numbers, law_runs, law_worked};
+pub use laws::{law_entries, law_journal, law_numbers, law_records, law_runs, law_worked};
 pub use run::Run;
 pub use settings::{Picks, Request, Requests, Settings};

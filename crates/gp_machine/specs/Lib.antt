@@ -10,6 +10,11 @@ pub use Rattle.gp_journal.specs.Waiting
 pub use Rattle.gp_journal.specs.Standing
 pub use Rattle.gp_journal.specs.Actors
 pub use Rattle.gp_journal.specs.Reached
+pub use Rattle.gp_journal.specs.Shown
+pub use Rattle.gp_journal.specs.Bodies
+pub use Rattle.gp_journal.specs.Profiles
+pub use Rattle.gp_journal.specs.ProfilesLaw
+pub use Rattle.gp_journal.specs.RecordsNamed
 pub use Rattle.gp_journal.specs.JournalLaw
 pub use Rattle.gp_journal.specs.RunLaws
 pub use Rattle.gp_journal.specs.NumberLaws

@@ -1,25 +1,18 @@
 -- What the machine keeps in place: the present state, and the numbers of its run that stay.
-use Rattle.std.specs.Prelude.{◌≡◌, ◌+◌, ◌<◌, ◌^◌, ℕ, min, List, length, get_or, map, Option, Some}
+use Rattle.std.specs.Prelude.{◌≡◌, ◌+◌, ◌<◌, ◌^◌, ℕ, List, length, get_or, map}
 use Rattle.gp_isa.specs.declared.parts.Parts.{Parts}
 use Rattle.gp_isa.specs.declared.parts.ChannelDecl.{ChannelDecl}
 use Rattle.gp_isa.specs.InLimits.{AreInLimits}
 use Rattle.gp_isa.specs.Trace.{trace}
-use Rattle.gp_stack.specs.Goroutine.{local_ahead}
-use Rattle.gp_stack.specs.Peek.{operation_of, then_at}
-use Rattle.gp_stack.specs.declared.peek.Peek.{Peek}
 use Rattle.gp_sync.specs.declared.effect.Effect.{Effect}
 use Rattle.gp_sync.specs.declared.effect.Effect.TheVariants.{Wakes}
-use Rattle.gp_journal.specs.declared.answer.SharedPoint.{SharedPoint}
-use Rattle.gp_journal.specs.declared.entry.Entry.{Entry}
-use Rattle.gp_journal.specs.declared.entry.Entry.TheVariants.{Op}
 use Rattle.gp_journal.specs.declared.goroutine.Status.TheVariants.{Blocked}
 use Rattle.gp_machine.specs.declared.present.Plan.{Plan}
 use Rattle.gp_journal.specs.declared.settings.Settings.{Settings}
-use Rattle.gp_journal.specs.Settings.{AreInRange, period, quantum}
-use Rattle.gp_journal.specs.State.{Code, State, goroutine, worker, births, trace_of}
-use Rattle.gp_journal.specs.Due.{next_instruction}
-use Rattle.gp_journal.specs.Effect.{labels_at}
+use Rattle.gp_journal.specs.Settings.{AreInRange, period}
+use Rattle.gp_journal.specs.State.{State, goroutine, worker, births}
 pub use Rattle.gp_journal.specs.Reached.{IsReached, Runs}
+pub use Rattle.gp_journal.specs.Shown.{IsPointOf, IsGiven, IsPeekAt}
 use Rattle.gp_journal.specs.Standing.{times}
 
 -- The numbers that stay are those of a program and its options: the length of each trace, the period of the ticks,
@@ -61,18 +54,3 @@ pub record CanWake (settings : Settings) (state : State) (g : ℕ) : Type 0 wher
 abbrev pub CanMeet : Settings → State → Effect → Type 0
 CanMeet settings state (Wakes h since) = CanWake settings state h
 CanMeet settings state _ = Unit {0}
-
--- the point that is handed over with an Op is the goroutine's next one
-pub record IsPointOf (code : Code) (state : State) (g : ℕ) (point : SharedPoint) : Type 0 where
-  pub operation : operation_of (next_instruction code state g) ≡ Some point.operation
-  pub labels : point.labels ≡ labels_at code (goroutine state g)
-
-abbrev pub IsGiven : Code → State → Entry → Option SharedPoint → Type 0
-IsGiven code state (Op w g) (Some point) = IsPointOf code state g point
-IsGiven code state (Op w g) _ = ⊥
-IsGiven code state _ _ = Unit {0}
-
--- a look ahead at the points of g is up to the quantum
-pub record IsPeekAt (code : Code) (state : State) (g : ℕ) (peek : Peek) : Type 0 where
-  pub local : peek.local ≡ min quantum (local_ahead (trace_of code (goroutine state g)) (goroutine state g).count)
-  pub then : peek.then ≡ then_at (trace_of code (goroutine state g)) ((goroutine state g).count + peek.local)

@@ -10,12 +10,12 @@ use Rattle.gp_stack.specs.declared.peek.Peek.{Peek}
 use Rattle.gp_journal.specs.declared.entry.Entry.{Entry}
 use Rattle.gp_journal.specs.declared.entry.Entry.TheVariants.{Start, Record}
 use Rattle.gp_journal.specs.declared.settings.Settings.{Settings}
-use Rattle.gp_machine.specs.Settings.{quantum}
-use Rattle.gp_machine.specs.State.{Code, State, code_of, goroutine, is_live}
-use Rattle.gp_machine.specs.Due.{asked, over}
-use Rattle.gp_machine.specs.Queue.{head_of}
-use Rattle.gp_machine.specs.Present.{IsPeekAt}
-use Rattle.gp_sim.specs.Bodies.{nowhere, AreBodiesOf}
+use Rattle.gp_journal.specs.Settings.{quantum}
+use Rattle.gp_journal.specs.State.{Code, State, code_of, goroutine, is_live}
+use Rattle.gp_journal.specs.Due.{asked, over}
+use Rattle.gp_journal.specs.Standing.{head_of}
+use Rattle.gp_journal.specs.Shown.{IsPeekAt}
+use Rattle.gp_journal.specs.Bodies.{nowhere, AreBodiesOf}
 use Rattle.gp_sim.specs.Choice.{idle_action, worker_action, profiler_action, with_action, actions_from, actions}
 
 -- An idle worker goes on with the queue's head, which is live.

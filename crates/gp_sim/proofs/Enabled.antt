@@ -11,14 +11,17 @@ use Rattle.gp_journal.specs.declared.entry.Entry.TheVariants.{Start, Run, Op, Ti
 use Rattle.gp_journal.specs.declared.goroutine.Status.{Status}
 use Rattle.gp_journal.specs.declared.goroutine.Status.TheVariants.{Runnable, Running, Blocked, Faulted, Dead}
 use Rattle.gp_journal.specs.declared.settings.Settings.{Settings}
-use Rattle.gp_machine.specs.Settings.{AreInRange, quantum}
-use Rattle.gp_machine.specs.State.{Code, State, nobody, goroutine, worker, is_runnable, is_live, is_idle, is_behind, live, running}
-use Rattle.gp_machine.specs.Due.{asked, over, due, extent, next_instruction}
-use Rattle.gp_machine.specs.May.{May, is_recorded}
-use Rattle.gp_machine.specs.Present.{IsReached}
-use Rattle.gp_machine.specs.Standing.{head_of, times, first_behind}
+use Rattle.gp_journal.specs.Settings.{AreInRange, quantum}
+use Rattle.gp_journal.specs.State.{Code, State, nobody, goroutine, worker, is_runnable, is_live, is_idle, is_behind, live, running}
+use Rattle.gp_journal.specs.Due.{asked, over, due, extent, next_instruction}
+use Rattle.gp_journal.specs.May.{May, is_recorded}
+use Rattle.gp_journal.specs.Standing.{first_behind}
+use Rattle.gp_journal.specs.Reached.{IsReached}
+use Rattle.gp_journal.specs.Standing.{times}
+use Rattle.gp_journal.specs.Standing.{head_of}
 use Rattle.gp_journal.proofs.Lemmas.{times-cons, one_at, live_status, is_whole, is_kept, holds_runnable, behind_parts, behind_from, active_last, Behind, some_same}
-use Rattle.gp_sim.specs.Choice.{goes_on_with, idle_action, action_of_worker, worker_action, goes_on, answers, profiler_action, with_action, actions_from, actions, Turn, chosen, number}
+use Rattle.gp_sim.specs.Choice.{goes_on_with, idle_action, action_of_worker, worker_action, goes_on, answers, profiler_action, with_action, actions_from, actions, chosen, number}
+use Rattle.gp_sim.specs.declared.numbers.Turn.{Turn}
 
 -- who stands at the head of a queue stands in it
 pub head_in : (queue : List ℕ) (g : ℕ) → head_of queue ≡ Some g → 1 ≤ times g queue

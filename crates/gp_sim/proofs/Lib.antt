@@ -1,13 +1,7 @@
 pub mod Generated
-pub mod Standing
 pub mod Acting
 pub mod Choosing
-pub mod Coming
-pub mod Recorded
 pub mod Enabled
 pub mod Complete
 pub mod Turns
-pub mod Following
 pub mod Stepping
-pub mod Framed
-pub mod Named

@@ -1,29 +1,26 @@
 -- The choice's journal, turn by turn.
-use Rattle.std.proofs.Common.{◌≡◌, ◌+◌, ◌-◌, ◌<◌, ◌≤◌, ℕ, zero, suc, List, [], ◌∷◌, ◌++◌, length, Option, Some, None, refl, sym, ap, ◌∙◌, subst, arith, length-append}
+use Rattle.std.proofs.Common.{◌≡◌, Bool, true, false, true≢false, ◌+◌, ◌-◌, ◌<◌, ◌≤◌, ℕ, zero, suc, List, [], ◌∷◌, ◌++◌, length, Option, Some, None, refl, sym, ap, ◌∙◌, subst, arith, length-append}
 use Rattle.std.proofs.lemmas.List.{append_assoc, append-nil}
 use Rattle.gp_journal.specs.declared.entry.Entry.{Entry}
 use Rattle.gp_journal.specs.declared.settings.Settings.{Settings}
-use Rattle.gp_machine.specs.Settings.{AreInRange}
-use Rattle.gp_machine.specs.State.{Code, State, first}
-use Rattle.gp_machine.specs.May.{May}
-use Rattle.gp_machine.specs.Effect.{after}
-use Rattle.gp_machine.specs.Run.{AreLegal, IsLegal, after_all, last, IsFinished}
-use Rattle.gp_machine.specs.NumberLaws.{most_entries}
-use Rattle.gp_machine.specs.Present.{IsReached}
-use Rattle.gp_journal.proofs.Lemmas.{after_all-append, entries_are_bounded}
-use Rattle.gp_sim.specs.Choice.{actions, Turn, chosen, entries_of, entries_from, sim_journal}
+use Rattle.gp_journal.specs.Settings.{AreInRange}
+use Rattle.gp_journal.specs.State.{Code, State, first}
+use Rattle.gp_journal.specs.May.{May}
+use Rattle.gp_journal.specs.Effect.{after}
+use Rattle.gp_journal.specs.Run.{IsLegal, last, IsFinished}
+use Rattle.gp_journal.specs.NumberLaws.{most_entries}
+use Rattle.gp_journal.specs.Reached.{IsReached}
+use Rattle.gp_journal.proofs.Lemmas.{after_all-append, entries_are_bounded, appended}
+use Rattle.gp_sim.specs.Choice.{actions, chosen, entries_of, entries_from, sim_journal}
+use Rattle.gp_sim.specs.declared.numbers.Turn.{Turn}
 use Rattle.gp_sim.specs.ChoiceLaw.{SimIsFinished}
-use Rattle.gp_sim.specs.Turns.{IsPartOfSim}
+use Rattle.gp_sim.specs.kept.Simulation.{SoFar, TakesTurn}
+use Rattle.gp_sim.specs.kept.Turns.{IsPartOfSim}
 use Rattle.gp_sim.proofs.Enabled.{chosen_may}
 use Rattle.gp_sim.proofs.Complete.{none_turns}
 
--- one legal entry more
-pub appended : (code : Code) (settings : Settings) (s : State) (journal : List Entry) (entry : Entry) → AreLegal code settings s journal → May code settings (after_all code settings s journal) entry → AreLegal code settings s (journal ++ entry ∷ [])
-appended code settings s [] entry legal may = (may, tt)
-appended code settings s (x ∷ xs) entry legal may = (legal.0, appended code settings (after code settings s x) xs entry legal.1 may)
-
 -- A turn takes at most one number.
-pub takes_one : (settings : Settings) (taken : ℕ) (entries : List Entry) (turn : Turn) → chosen settings taken entries ≡ Some turn → turn.taken ≤ taken + 1
+takes_one : (settings : Settings) (taken : ℕ) (entries : List Entry) (turn : Turn) → chosen settings taken entries ≡ Some turn → turn.taken ≤ taken + 1
 takes_one settings taken [] turn e = absurd (cc)
 takes_one settings taken (only ∷ []) turn e = let same : taken ≡ turn.taken = cc in omega arith
 takes_one settings taken (one ∷ other ∷ more) turn e = let same : taken + 1 ≡ turn.taken = cc in omega arith
@@ -63,7 +60,7 @@ module _ (code : Code) (settings : Settings) (journal : List Entry) (taken : ℕ
     longer = appended code settings (first code settings) journal turn.entry part.legal turn_may
 
     -- so there is room for it
-    pub turn_fits : length journal < most_entries settings
+    turn_fits : length journal < most_entries settings
     turn_fits = let few = entries_are_bounded code settings (journal ++ turn.entry ∷ []) range longer in omega (arith, length-append journal (turn.entry ∷ []))
 
     turns_left : most_entries settings - length journal ≡ suc (most_entries settings - length (journal ++ turn.entry ∷ []))
@@ -102,8 +99,43 @@ module _ (code : Code) (settings : Settings) (journal : List Entry) (taken : ℕ
   finished_by None e later = let done = ends e in subst (IsFinished code settings) (sym done.0) done.1
   finished_by (Some turn) e later = later turn e
 
+-- What a turn of a simulation that makes an entry leaves.
+pub record GoesOn (code : Code) (settings : Settings) (before now : SoFar) : Type 0 where
+  pub part : IsPartOfSim code settings now.journal now.taken
+  pub longer : length now.journal ≡ length before.journal + 1
+  pub within : length before.journal < most_entries settings
+
+-- and one that makes none
+pub record IsAtEnd (code : Code) (settings : Settings) (before now : SoFar) : Type 0 where
+  pub same : now ≡ before
+  pub all : sim_journal code settings ≡ before.journal
+  pub finished : IsFinished code settings before.journal
+
+module _ (code : Code) (settings : Settings) (before now : SoFar) (made : Bool) (range : AreInRange settings) (part : IsPartOfSim code settings before.journal before.taken)
+    (takes : TakesTurn (chosen settings before.taken (actions code settings (last code settings before.journal))) made before now) where
+  pub took_turn : made ≡ true → GoesOn code settings before now
+  took_turn yes_made = by (chosen settings before.taken (actions code settings (last code settings before.journal))) refl takes
+    where
+      by : (o : Option Turn) → chosen settings before.taken (actions code settings (last code settings before.journal)) ≡ o → TakesTurn o made before now → GoesOn code settings before now
+      by None e took = absurd (true≢false (sym yes_made ∙ took.told))
+      by (Some turn) e took = rw took.after (record {
+        part = goes_on code settings before.journal before.taken range part turn e;
+        longer = length-append before.journal (turn.entry ∷ []);
+        within = turn_fits code settings before.journal before.taken range part turn e;
+      })
+
+  pub took_none : made ≡ false → IsAtEnd code settings before now
+  took_none none_made = by (chosen settings before.taken (actions code settings (last code settings before.journal))) refl takes
+    where
+      by : (o : Option Turn) → chosen settings before.taken (actions code settings (last code settings before.journal)) ≡ o → TakesTurn o made before now → IsAtEnd code settings before now
+      by None e took =
+          let done = ends code settings before.journal before.taken range part e in
+          record { same = took.after; all = done.0; finished = done.1 }
+      by (Some turn) e took = absurd (true≢false (sym took.told ∙ none_made))
+
 -- It ends within the turns that are left.
-finishes : (code : Code) (settings : Settings) (n : ℕ) (journal : List Entry) (taken : ℕ) → AreInRange settings → IsPartOfSim code settings journal taken → most_entries settings ≤ length journal + n → IsFinished code settings (sim_journal code settings)
+finishes : (code : Code) (settings : Settings) (n : ℕ) (journal : List Entry) (taken : ℕ) → AreInRange settings → IsPartOfSim code settings journal taken → most_entries settings ≤ length journal + n →
+    IsFinished code settings (sim_journal code settings)
 finishes code settings zero journal taken range part enough =
     finished_by code settings journal taken range part (chosen settings taken (actions code settings (last code settings journal))) refl
     (λ turn e. let fits = turn_fits code settings journal taken range part turn e in absurd (omega arith))

@@ -5,12 +5,13 @@ use Rattle.rand_pcg.specs.Pcg.{multiplier_64, output_xsh_rr}
 use Rattle.gp_journal.specs.declared.entry.Entry.{Entry}
 use Rattle.gp_journal.specs.declared.entry.Entry.TheVariants.{Start, Open, Refuse, Record, Close}
 use Rattle.gp_journal.specs.declared.settings.Settings.{Settings}
-use Rattle.gp_machine.specs.State.{Code, State, goroutine, worker, is_behind, live, running, first}
-use Rattle.gp_machine.specs.Due.{asked, over, due}
-use Rattle.gp_machine.specs.Effect.{after}
-use Rattle.gp_machine.specs.Crowd.{first_behind}
-use Rattle.gp_machine.specs.Queue.{head_of}
-use Rattle.gp_machine.specs.NumberLaws.{most_entries}
+use Rattle.gp_sim.specs.declared.numbers.Turn.{Turn}
+use Rattle.gp_journal.specs.State.{Code, State, goroutine, worker, is_behind, live, running, first}
+use Rattle.gp_journal.specs.Due.{asked, over, due}
+use Rattle.gp_journal.specs.Effect.{after}
+use Rattle.gp_journal.specs.Standing.{first_behind}
+use Rattle.gp_journal.specs.Standing.{head_of}
+use Rattle.gp_journal.specs.NumberLaws.{most_entries}
 
 -- An idle worker goes on with the head of the queue: it records it where that has still to be done, else it starts it.
 abbrev pub goes_on_with : State → ℕ → Option ℕ → Option Entry
@@ -70,11 +71,7 @@ number settings k =
     if nat_lt k (length settings.picks) then get_or settings.picks k 0
     else output_xsh_rr (advance 64 multiplier_64 (k - length settings.picks) (seeded settings)).state
 
--- A turn: the entry that is made, and how many numbers were taken so far.
-pub record Turn : Type 0 where
-  pub entry : Entry
-  pub taken : ℕ
-
+-- A turn is the entry that it makes, with how many numbers were taken once it is made.
 -- One of some actions: where there is but one, that one, and no number is taken; else the next number modulo how many
 -- there are is its place among them.
 abbrev pub chosen : Settings → ℕ → List Entry → Option Turn
@@ -82,11 +79,6 @@ chosen settings taken [] = None
 chosen settings taken (only ∷ []) = Some (record { entry = only; taken = taken })
 chosen settings taken (one ∷ other ∷ more) =
     let among = one ∷ other ∷ more in Some (record { entry = get_or among (number settings taken % length among) one; taken = taken + 1 })
-
--- the turn that makes an entry, where there is one
-abbrev pub turn_of : ℕ → Option Entry → Option Turn
-turn_of taken None = None
-turn_of taken (Some entry) = Some (record { entry = entry; taken = taken })
 
 -- a turn's entry, and what comes behind it, where there is a turn
 abbrev pub entries_of : Option Turn → (Turn → List Entry) → List Entry

@@ -2,12 +2,13 @@
 use Rattle.std.specs.Prelude.{◌≡◌, ℕ, List, [], All, Some}
 use Rattle.gp_journal.specs.declared.entry.Entry.{Entry}
 use Rattle.gp_journal.specs.declared.settings.Settings.{Settings}
-use Rattle.gp_machine.specs.Settings.{AreInRange}
-use Rattle.gp_machine.specs.State.{Code}
-use Rattle.gp_machine.specs.Due.{IsComplete}
-use Rattle.gp_machine.specs.May.{May}
-use Rattle.gp_machine.specs.Run.{IsLegal, last, IsFinished}
-use Rattle.gp_sim.specs.Choice.{actions, Turn, chosen, sim_journal}
+use Rattle.gp_journal.specs.Settings.{AreInRange}
+use Rattle.gp_journal.specs.State.{Code}
+use Rattle.gp_journal.specs.Due.{IsComplete}
+use Rattle.gp_journal.specs.May.{May}
+use Rattle.gp_journal.specs.Run.{IsLegal, last, IsFinished}
+use Rattle.gp_sim.specs.Choice.{actions, chosen, sim_journal}
+use Rattle.gp_sim.specs.declared.numbers.Turn.{Turn}
 
 -- After a legal journal, whatever the actors that can act would do is legal.
 abbrev pub ChoiceIsLegal : Type 0

@@ -1,21 +1,19 @@
-ghost use Rattle.std.specs.Prelude.{◌≡◌, ◌<◌, ◌≤◌, ◌+◌, ◌++◌, ◌∷◌, [], ℕ, false, Some, length, get_or, set, take, min, IfOk};
+ghost use Rattle.std.specs.Prelude.{◌≡◌, ◌<◌, ◌≤◌, ◌+◌, ◌++◌, ◌∷◌, [], ℕ, Bool, Some, length, get_or, min, IfOk};
 ghost use Rattle.gp_isa.specs.Trace.{trace};
-ghost use Rattle.gp_stack.specs.Body.{Progress, IsAtShared};
-ghost use Rattle.gp_stack.specs.Goroutine.{is_ended, next_point, labels_of, local_ahead, stack_of, frame_limit};
+ghost use Rattle.gp_stack.specs.Body.{progress_of, StandsIn, IsAtShared};
+ghost use Rattle.gp_stack.specs.Goroutine.{next_point, labels_of, local_ahead};
 ghost use Rattle.gp_stack.specs.Peek.{operation_of, then_at};
-ghost use Rattle.gp_stack.specs.declared.statement.Operation.TheVariants as operation;
-ghost use Rattle.gp_sim.specs.Bodies.{nowhere, Spawns, MayBear, Follows};
+ghost use Rattle.gp_stack.specs.Record.{record_of};
+ghost use Rattle.gp_journal.specs.declared.answer.Applied.TheVariants as applied;
+ghost use Rattle.gp_journal.specs.Bodies.{nowhere, moved_on, followed, gained};
 
 use gp_isa::{Memory, Program};
-use gp_machine::{Applied, Run, SharedPoint};
-use gp_stack::{Body, Operation, Peek, Record, Stack, Then};
+use gp_machine::{Applied, Run, Settings, SharedPoint};
+use gp_stack::{Body, Peek, Record, Then};
 use std::alloc::Global;
 use std::marker::{Model, PhantomData};
 
-/// How many frames of a goroutine's stack a profile keeps.
-const FRAMES: u32 = 32;
-
-/// The bodies of the goroutines that were born, by number. The value is where each stands.
+/// The bodies of the goroutines that were born, by number, with room for each cell. The value is where each stands.
 #[derive(Drop)]
 pub(crate) struct Bodies<R: Run> {
     bodies: Vec<Body>,
@@ -24,43 +22,51 @@ pub(crate) struct Bodies<R: Run> {
 
 impl<R: Run> Model for Bodies<R> {
     ghost use Rattle.std.specs.Prelude.{List};
+    ghost use Rattle.std.specs.Vec.{vec_capacity};
     ghost use Rattle.gp_stack.specs.Body.{Progress};
-    ghost use Rattle.gp_sim.specs.Bodies.{AllStand, progress_each};
+    ghost use Rattle.gp_journal.specs.Bodies.{progress_each};
+    ghost use Rattle.gp_sim.specs.kept.Bodies.{StandInRoom};
 
     ghost Value = { List Progress };
 
     ghost view = { λ b. progress_each b.bodies.items };
 
-    ghost invariant = { λ b. AllStand R.program b.bodies.items };
+    ghost invariant = { λ b. StandInRoom R.program R.settings (vec_capacity b.bodies) b.bodies.items };
+}
+
+/// The body of one that is born, to run a function with a label set.
+pub(crate) fn newborn(alloc: Global, program: &Program, start: u32, set: u8) -> Result<Body, Memory>
+    requires { start < length program.now.functions }
+    ensures stands { IfOk result (StandsIn program.now) }
+    ensures progress { IfOk result (λ body. progress_of body ≡ record { start = start; set = set; count = 0 }) }
+{
+    let mut body = Body::vacant(alloc, program)?;
+    body.born(program, start, set);
+    Ok(body)
 }
 
 impl<R: Run> Bodies<R> {
-    /// None yet.
-    pub fn new(alloc: Global) -> Bodies<R>
-        ensures { result ≡ [] }
+    /// None yet, and room for each cell.
+    pub fn new(alloc: Global, settings: &Settings) -> Result<Bodies<R>, Memory>
+        requires { settings.now ≡ R.settings }
+        ensures { IfOk result (λ bodies. bodies ≡ []) }
     {
-        Bodies {
-            bodies: Vec::new(alloc),
+        Ok(Bodies {
+            bodies: Vec::with_capacity(alloc, settings.cells as usize)?,
             of: PhantomData,
-        }
+        })
     }
 
-    /// One more is born, to run a function with a label set.
-    pub fn born(
-        &mut self,
-        alloc: Global,
-        program: &Program,
-        start: u32,
-        set: u8,
-    ) -> Result<(), Memory>
-        requires program { program.now ≡ R.program }
-        requires there { start < length program.now.functions }
-        ensures { IfOk result (λ _. self.new ≡ self.old ++ record { start = start; set = set; count = 0 } ∷ []) }
+    /// One more comes to them.
+    pub fn push(&mut self, body: Body)
+        requires stands { StandsIn R.program body }
+        requires room { length self.old < R.settings.cells }
+        ensures { self.new ≡ self.old ++ progress_of body ∷ [] }
     {
-        let mut body = Body::vacant(alloc, program)?;
-        body.born(program, start, set);
-        self.bodies.push(body)?;
-        Ok(())
+        match self.bodies.push(body) {
+            Ok(()) => {}
+            Err(_) => unreachable!(),
+        }
     }
 
     /// How many local points the body of g has ahead, up to a limit, and what follows.
@@ -86,7 +92,8 @@ impl<R: Run> Bodies<R> {
         requires program { program.now ≡ R.program }
         requires born { g < length self.now }
         requires shared { let p = get_or self.now g nowhere in IsAtShared (trace R.program p.start) p.count }
-        ensures operation { let p = get_or self.now g nowhere in operation_of (next_point (trace R.program p.start) p.count).instruction ≡ Some result.operation }
+        ensures operation { let p = get_or self.now g nowhere in
+            operation_of (next_point (trace R.program p.start) p.count).instruction ≡ Some result.operation }
         ensures labels { let p = get_or self.now g nowhere in result.labels ≡ labels_of (trace R.program p.start) p.set p.count }
     {
         match self.peek(program, g, 0).then {
@@ -104,103 +111,58 @@ impl<R: Run> Bodies<R> {
         requires program { program.now ≡ R.program }
         requires born { g < length self.old }
         requires ahead { let p = get_or self.old g nowhere in n ≤ local_ahead (trace R.program p.start) p.count }
-        ensures { let p = get_or self.old g nowhere in self.new ≡ set self.old g (record p { count = p.count + n }) }
+        ensures { self.new ≡ moved_on self.old g n }
     {
         self.bodies[g as usize].advance(program, n);
     }
 
-    /// g passes its next point, which is shared.
-    pub fn pass(&mut self, program: &Program, g: u32)
+    // g passes its next point, which is shared.
+    fn pass(&mut self, program: &Program, g: u32)
         requires program { program.now ≡ R.program }
         requires born { g < length self.old }
         requires shared { let p = get_or self.old g nowhere in IsAtShared (trace R.program p.start) p.count }
-        ensures { let p = get_or self.old g nowhere in self.new ≡ set self.old g (record p { count = p.count + 1 }) }
+        ensures { self.new ≡ moved_on self.old g 1 }
     {
         self.bodies[g as usize].pass(program);
     }
 
-    // A goroutine is born at a spawn.
-    fn bear(&mut self, alloc: Global, program: &Program, point: SharedPoint) -> Result<(), Memory>
-        requires program { program.now ≡ R.program }
-        requires spawn { Spawns (length R.program.functions) point.operation }
-        ensures { (f : ℕ) → point.operation ≡ operation.Spawn f → IfOk result (λ _. self.new ≡ self.old ++ record { start = f; set = point.labels; count = 0 } ∷ []) }
-    {
-        match point.operation {
-            Operation::Spawn { f } => self.born(alloc, program, f, point.labels),
-            Operation::Send { .. } => unreachable!(),
-            Operation::Recv { .. } => unreachable!(),
-            Operation::Lock { .. } => unreachable!(),
-            Operation::Unlock { .. } => unreachable!(),
-        }
-    }
-
-    /// Goes on after g came to a shared point, by what that did: g passes it or stays, and whoever was born there has
-    /// a body.
-    pub fn follow(
-        &mut self,
-        alloc: Global,
-        program: &Program,
-        g: u32,
-        point: SharedPoint,
-        answer: Applied,
-    ) -> Result<(), Memory>
+    /// Goes on after g came to a shared point, by what that did: g passes it or stays.
+    pub fn follow(&mut self, program: &Program, g: u32, answer: Applied)
         requires program { program.now ≡ R.program }
         requires born { g < length self.old }
         requires shared { let p = get_or self.old g nowhere in IsAtShared (trace R.program p.start) p.count }
-        requires spawn { MayBear (length R.program.functions) point.operation answer }
-        ensures { IfOk result (λ _. Follows self.old g point answer self.new) }
+        ensures { self.new ≡ followed g answer self.old }
     {
         match answer {
-            Applied::Passed { .. } => {
-                self.pass(program, g);
-                Ok(())
-            }
-            Applied::Born { .. } => {
-                self.pass(program, g);
-                self.bear(alloc, program, point)?;
-                Ok(())
-            }
-            Applied::Blocked => Ok(()),
-            Applied::Fault { .. } => Ok(()),
-            Applied::Plain { .. } => Ok(()),
+            Applied::Passed { .. } => self.pass(program, g),
+            Applied::Born { .. } => self.pass(program, g),
+            Applied::Blocked => {}
+            Applied::Fault { .. } => {}
+            Applied::Plain { .. } => {}
         }
     }
 
-    // Whether the trace of g is ended.
-    fn is_over(&self, program: &Program, g: u32) -> bool
-        requires program { program.now ≡ R.program }
-        requires born { g < length self.now }
-        ensures { let p = get_or self.now g nowhere in result ≡ is_ended (trace R.program p.start) p.count }
+    /// The body of one who stands ready comes to them, where the answer tells that somebody was born.
+    pub fn gain(&mut self, answer: Applied, born: Body)
+        requires stands { StandsIn R.program born }
+        requires room { (h : ℕ) (died : Bool) → answer ≡ applied.Born h died → length self.old < R.settings.cells }
+        ensures { self.new ≡ gained answer (progress_of born) self.old }
     {
-        match self.peek(program, g, 0).then {
-            Then::Over => true,
-            Then::Local => false,
-            Then::Shared(_) => false,
+        match answer {
+            Applied::Born { .. } => self.push(born),
+            Applied::Passed { .. } => {}
+            Applied::Blocked => {}
+            Applied::Fault { .. } => {}
+            Applied::Plain { .. } => {}
         }
-    }
-
-    // The stack of g, cut. At its trace's end it has none.
-    fn stack(&self, alloc: Global, program: &Program, g: u32) -> Result<Stack, Memory>
-        requires program { program.now ≡ R.program }
-        requires born { g < length self.now }
-        ensures { let p = get_or self.now g nowhere in IfOk result (λ stack. stack ≡ take frame_limit (stack_of (trace R.program p.start) p.count)) }
-    {
-        if self.is_over(program, g) {
-            return Ok(Stack::new(alloc));
-        }
-        self.bodies[g as usize].stack(alloc, program, FRAMES)
     }
 
     /// The record of g.
     pub fn record(&self, alloc: Global, program: &Program, g: u32) -> Result<Record, Memory>
         requires program { program.now ≡ R.program }
         requires born { g < length self.now }
-        ensures { let p = get_or self.now g nowhere in IfOk result (λ row. row ≡ record { g = g; stack = take frame_limit (stack_of (trace R.program p.start) p.count); set = labels_of (trace R.program p.start) p.set p.count }) }
+        ensures { IfOk result (λ row. row ≡ record_of R.program g (get_or self.now g nowhere)) }
     {
-        Ok(Record {
-            g,
-            stack: self.stack(alloc, program, g)?,
-            set: self.labels(g),
-        })
+        self.bodies[g as usize].record(alloc, program, g)
     }
 }

@@ -1,15 +1,18 @@
-ghost use Rattle.std.specs.Prelude.{◌≡◌, ◌≤◌, ◌<◌, ◌+◌, ◌^◌, [], length, IfOk};
-ghost use Rattle.gp_machine.specs.Settings.{AreInRange};
-ghost use Rattle.gp_machine.specs.NumberLaws.{most_entries};
-ghost use Rattle.gp_machine.specs.State.{code_of};
-ghost use Rattle.gp_machine.specs.Run.{IsFinished, last};
-ghost use Rattle.gp_sim.specs.Choice.{sim_journal, actions, chosen, turn_of};
-ghost use Rattle.gp_sim.specs.Profiles.{records_of, AreFrozen};
+ghost use Rattle.std.specs.Prelude.{◌≡◌, ◌≤◌, ◌<◌, ◌+◌, ◌^◌, [], length, IfOk, OnErr};
+ghost use Rattle.gp_journal.specs.Settings.{AreInRange};
+ghost use Rattle.gp_journal.specs.NumberLaws.{most_entries};
+ghost use Rattle.gp_journal.specs.State.{code_of};
+ghost use Rattle.gp_journal.specs.Run.{IsFinished};
+ghost use Rattle.gp_journal.specs.Profiles.{records_of, AreFrozen};
+ghost use Rattle.gp_sim.specs.Choice.{sim_journal};
+ghost use Rattle.gp_sim.specs.kept.Simulation.{next_turn, TakesTurn};
 
-use crate::bodies::Bodies;
-use crate::numbers::Numbers;
+use crate::actions::actions;
+use crate::bodies::{Bodies, newborn};
+use crate::numbers::choose;
 use crate::simulation::Simulation;
-use gp_isa::{Memory, Program, Sequence};
+use gp_history::{History, HistoryParts};
+use gp_isa::{Memory, Program};
 use gp_machine::{Entry, Machine, Run, Settings};
 use gp_stack::Profiles;
 use std::alloc::Global;
@@ -20,6 +23,8 @@ pub struct Simulated<R: Run> {
     pub machine: Machine<R>,
     /// The records of each profile, by epoch.
     pub records: Profiles,
+    /// How many turns it took, the last of which found that nobody can act.
+    pub turns: u64,
 }
 
 impl<R: Run> Simulation<R> {
@@ -34,51 +39,63 @@ impl<R: Run> Simulation<R> {
         requires range { AreInRange settings.now }
         ensures { IfOk result (λ s. s ≡ record { journal = []; taken = 0 }) }
     {
-        let mut bodies = Bodies::new(alloc);
-        bodies.born(alloc, program, program.main(), 0)?;
+        let mut bodies = Bodies::new(alloc, settings)?;
+        bodies.push(newborn(alloc, program, program.main(), 0)?);
         Ok(Simulation {
-            machine: Machine::new(alloc, program, settings)?,
+            history: History::new(alloc, program, settings)?,
             bodies,
-            records: Vec::new(alloc),
-            numbers: Numbers::new(settings),
+            taken: 0,
         })
     }
 
-    // The entry of the next turn, where some actor can act.
-    fn next(
+    // One turn: where actors can act, one of them does. It tells whether some could.
+    fn turn(
         &mut self,
+        alloc: Global,
         program: &Program,
         settings: &Settings,
         actions_to: &mut Vec<Entry>,
-    ) -> Result<Option<Entry>, Memory>
+    ) -> Result<bool, Memory>
         requires program { program.now ≡ R.program }
         requires settings { settings.now ≡ R.settings }
         requires room { self.old.taken + 1 < 2 ^ 64 }
-        ensures chosen { IfOk result (λ made. chosen R.settings self.old.taken (actions (code_of R.program) R.settings (last (code_of R.program) R.settings self.old.journal)) ≡ turn_of self.new.taken made) }
-        ensures journal { self.new.journal ≡ self.old.journal }
+        ensures turn { IfOk result (λ made. TakesTurn (next_turn R.program R.settings self.old) made self.old self.new) }
+        ensures err { OnErr result (self.new ≡ self.old) }
     {
-        self.actions(program, settings, actions_to)?;
-        Ok(self.numbers.choose(settings, actions_to.as_slice()))
+        actions(
+            self.history.machine(),
+            &self.bodies,
+            program,
+            settings,
+            actions_to,
+        )?;
+        match choose(settings, self.taken, actions_to.as_slice()) {
+            Some(turn) => {
+                self.make(alloc, program, settings, turn.entry)?;
+                self.taken = turn.taken;
+                Ok(true)
+            }
+            None => Ok(false),
+        }
     }
 
     // What is left of a run at its end.
-    fn end(self) -> Simulated<R>
+    fn end(self, turns: u64) -> Simulated<R>
         ensures machine { result.machine ≡ self.journal }
         ensures records { result.records ≡ records_of (code_of R.program) R.settings self.journal }
+        ensures turns { result.turns ≡ turns }
     {
-        let Simulation {
-            machine,
-            records,
-            ..
-        } = self;
+        let Simulation { history, .. } = self;
+        let HistoryParts { machine, records } = history.into_parts();
         Simulated {
             machine,
-            records: Sequence::from_vec(records),
+            records,
+            turns,
         }
     }
 }
 
-/// Runs a program in the order that its options' numbers choose, to the end. Each turn makes an entry.
+/// Runs a program in the order that its options' numbers choose, to the end. Each turn but the last makes an entry.
 pub fn simulate<R: Run>(
     alloc: Global,
     program: &Program,
@@ -91,12 +108,14 @@ pub fn simulate<R: Run>(
     ensures finished { IfOk result (λ s. IsFinished (code_of R.program) R.settings s.machine) }
     ensures records { IfOk result (λ s. s.records ≡ records_of (code_of R.program) R.settings s.machine) }
     ensures frozen { IfOk result (λ s. AreFrozen (code_of R.program) R.settings s.machine s.records) }
-    ensures turns { IfOk result (λ s. length s.machine ≤ most_entries R.settings) }
+    ensures entries { IfOk result (λ s. length s.machine ≤ most_entries R.settings) }
+    ensures turns { IfOk result (λ s. s.turns ≡ length s.machine + 1) }
 {
     let mut simulation = Simulation::<R>::new(alloc, program, settings)?;
     let mut actions_to = Vec::new(alloc);
-    while let Some(made) = simulation.next(program, settings, &mut actions_to)? {
-        simulation = simulation.make(alloc, program, made)?;
+    let mut turns = 1;
+    while simulation.turn(alloc, program, settings, &mut actions_to)? {
+        turns += 1;
     }
-    Ok(simulation.end())
+    Ok(simulation.end(turns))
 }

@@ -8,27 +8,22 @@
 //! of the generator PCG32 at the option's seed, on stream 1. Where nobody can act the run is complete.
 //!
 //! So the journal is a function of program and options (`specs/Choice.antt`, `sim_journal`), and `simulate` gives just
-//! that journal, with the records of each profile (`specs/Profiles.antt`): the rows that the Record entries took, in their
-//! order, which sorted are the frozen rows at the profile's Open. `law_choice`: what may be chosen is legal, and the
-//! journal that the choice gives is finished. `law_records`: how records grow, that they are frozen, and
-//! that the functions of their frames and their label sets are there in the program (`specs/Named.antt`).
+//! that journal, with the records of each profile, and the number of turns: one more than there are entries.
+//! `law_choice`: what may be chosen is legal, and the journal that the choice gives is finished.
 //!
-//! `simulate` keeps beside the machine a body for each goroutine that was born (`Bodies`), which stands where its
-//! goroutine stands (`specs/Bodies.antt`), and copies a stack only as its Record entry is made. A turn takes time that
+//! `simulate` keeps the run's `History`, the numbers, and a body for each goroutine that was born (`Bodies`), which
+//! stands where its goroutine stands. A turn changes them in place: it first makes what takes memory, the copy of a
+//! stack for a Record and the body of whoever is born, and where memory is refused all is as before. It takes time that
 //! grows with the number of workers, and not with that of goroutines; a Record takes time by the frames that it copies.
 #![tactic(auto)]
 
+mod actions;
 mod bodies;
 mod full_run;
 mod laws;
 mod making;
 mod numbers;
-mod record_laws;
 mod simulation;
 
 pub use full_run::{Simulated, simulate};
 pub use laws::law_choice;
-pub use record_laws::law_records;
-
-#[cfg(test)]
-mod tests;

@@ -1,156 +1,153 @@
-ghost use Rattle.std.specs.Prelude.{◌≡◌, ◌++◌, ◌∷◌, [], ℕ, Some, IfOk, true};
-ghost use Rattle.gp_machine.specs.State.{code_of, goroutine};
-ghost use Rattle.gp_machine.specs.May.{May};
-ghost use Rattle.gp_machine.specs.Run.{last};
+ghost use Rattle.std.specs.Prelude.{◌≡◌, ◌++◌, ◌∷◌, [], OnOk, OnErr};
+ghost use Rattle.gp_journal.specs.State.{code_of};
+ghost use Rattle.gp_journal.specs.May.{May};
+ghost use Rattle.gp_journal.specs.Run.{state_of};
+ghost use Rattle.gp_journal.specs.Shown.{IsPointOf};
 ghost use Rattle.gp_journal.specs.declared.entry.Entry.TheVariants as entry;
-ghost use Rattle.gp_sim.specs.Simulation.{IsQuiet};
+ghost use Rattle.gp_stack.specs.declared.statement.Operation.TheVariants as operation;
+ghost use Rattle.gp_sim.specs.kept.Simulation.{IsQuiet, BearsNobody};
 
+use crate::bodies::newborn;
 use crate::simulation::Simulation;
-use gp_isa::{Memory, Program, Sequence};
-use gp_machine::{Entry, Run};
+use gp_isa::{Memory, Program};
+use gp_machine::{Entry, Run, Settings, SharedPoint};
+use gp_stack::Operation;
 use std::alloc::Global;
 
 impl<R: Run> Simulation<R> {
-    // Makes an entry by which no body moves, and which takes no record.
-    fn enter(self, made: Entry) -> Simulation<R>
-        requires may { May (code_of R.program) R.settings (last (code_of R.program) R.settings self.journal) made }
+    // Makes an entry by which no body moves, and no profile begins, grows or ends.
+    fn enter(&mut self, made: Entry)
+        requires may { May (code_of R.program) R.settings (state_of R.program R.settings self.old.journal) made }
         requires quiet { IsQuiet made }
-        ensures { result ≡ record self { journal = self.journal ++ made ∷ [] } }
+        ensures { self.new ≡ record self.old { journal = self.old.journal ++ made ∷ [] } }
     {
-        let Simulation {
-            mut machine,
-            bodies,
-            records,
-            numbers,
-        } = self;
-        machine.apply(made, None);
-        Simulation {
-            machine,
-            bodies,
-            records,
-            numbers,
-        }
+        self.history.enter(made, None);
+    }
+
+    fn open(&mut self, epoch: u32, room: u32)
+        requires { May (code_of R.program) R.settings (state_of R.program R.settings self.old.journal) (entry.Open epoch room) }
+        ensures { self.new ≡ record self.old { journal = self.old.journal ++ entry.Open epoch room ∷ [] } }
+    {
+        self.history.open(epoch, room);
+    }
+
+    fn close(&mut self, epoch: u32)
+        requires { May (code_of R.program) R.settings (state_of R.program R.settings self.old.journal) (entry.Close epoch) }
+        ensures { self.new ≡ record self.old { journal = self.old.journal ++ entry.Close epoch ∷ [] } }
+    {
+        self.history.close(epoch);
     }
 
     // g passes n local points on w.
-    fn run(self, program: &Program, w: u32, g: u32, n: u64) -> Simulation<R>
+    fn run(&mut self, program: &Program, w: u32, g: u32, n: u64)
         requires program { program.now ≡ R.program }
-        requires may { May (code_of R.program) R.settings (last (code_of R.program) R.settings self.journal) (entry.Run w g n) }
-        ensures { result ≡ record self { journal = self.journal ++ entry.Run w g n ∷ [] } }
+        requires may { May (code_of R.program) R.settings (state_of R.program R.settings self.old.journal) (entry.Run w g n) }
+        ensures { self.new ≡ record self.old { journal = self.old.journal ++ entry.Run w g n ∷ [] } }
     {
-        let Simulation {
-            mut machine,
-            mut bodies,
-            records,
-            numbers,
-        } = self;
-        machine.apply(Entry::Run { w, g, n }, None);
-        bodies.advance(program, g, n);
-        Simulation {
-            machine,
-            bodies,
-            records,
-            numbers,
-        }
+        self.history.enter(Entry::Run { w, g, n }, None);
+        self.bodies.advance(program, g, n);
     }
 
-    // A profile is opened, which has no record yet.
-    fn open(self, alloc: Global, epoch: u32, room: u32) -> Result<Simulation<R>, Memory>
-        requires may { May (code_of R.program) R.settings (last (code_of R.program) R.settings self.journal) (entry.Open epoch room) }
-        ensures { IfOk result (λ s. s ≡ record self { journal = self.journal ++ entry.Open epoch room ∷ [] }) }
+    // An actor records g, whose copy is made first.
+    fn record(&mut self, alloc: Global, program: &Program, actor: u32, g: u32) -> Result<(), Memory>
+        requires program { program.now ≡ R.program }
+        requires may { May (code_of R.program) R.settings (state_of R.program R.settings self.old.journal) (entry.Record actor g) }
+        ensures ok { OnOk result (self.new ≡ record self.old { journal = self.old.journal ++ entry.Record actor g ∷ [] }) }
+        ensures err { OnErr result (self.new ≡ self.old) }
     {
-        let Simulation {
-            mut machine,
-            bodies,
-            mut records,
-            numbers,
-        } = self;
-        machine.apply(Entry::Open { epoch, room }, None);
-        records.push(Sequence::new(alloc))?;
-        Ok(Simulation {
-            machine,
-            bodies,
-            records,
-            numbers,
-        })
+        let copy = self.bodies.record(alloc, program, g)?;
+        self.history.record(actor, g, copy);
+        Ok(())
     }
 
-    // An actor records g.
-    fn record(
-        self,
+    // g comes to its next point, at which nobody can be born, on w.
+    fn operate(&mut self, program: &Program, w: u32, g: u32, point: SharedPoint)
+        requires program { program.now ≡ R.program }
+        requires may { May (code_of R.program) R.settings (state_of R.program R.settings self.old.journal) (entry.Op w g) }
+        requires point { IsPointOf (code_of R.program) (state_of R.program R.settings self.old.journal) g point }
+        requires nobody { BearsNobody R.settings (state_of R.program R.settings self.old.journal) point }
+        ensures { self.new ≡ record self.old { journal = self.old.journal ++ entry.Op w g ∷ [] } }
+    {
+        let answer = self.history.enter(Entry::Op { w, g }, Some(point));
+        self.bodies.follow(program, g, answer);
+    }
+
+    // g comes to its next point, a spawn of f, on w. The body of whoever may be born there is made first.
+    fn spawn(
+        &mut self,
         alloc: Global,
         program: &Program,
-        actor: u32,
+        w: u32,
         g: u32,
-    ) -> Result<Simulation<R>, Memory>
+        point: SharedPoint,
+        f: u32,
+    ) -> Result<(), Memory>
         requires program { program.now ≡ R.program }
-        requires may { May (code_of R.program) R.settings (last (code_of R.program) R.settings self.journal) (entry.Record actor g) }
-        ensures { IfOk result (λ s. s ≡ record self { journal = self.journal ++ entry.Record actor g ∷ [] }) }
+        requires may { May (code_of R.program) R.settings (state_of R.program R.settings self.old.journal) (entry.Op w g) }
+        requires point { IsPointOf (code_of R.program) (state_of R.program R.settings self.old.journal) g point }
+        requires spawn { point.operation ≡ operation.Spawn f }
+        ensures ok { OnOk result (self.new ≡ record self.old { journal = self.old.journal ++ entry.Op w g ∷ [] }) }
+        ensures err { OnErr result (self.new ≡ self.old) }
     {
-        let Simulation {
-            mut machine,
-            bodies,
-            mut records,
-            numbers,
-        } = self;
-        let row = bodies.record(alloc, program, g)?;
-        machine.apply(Entry::Record { actor, g }, None);
-        let newest = records.len() - 1;
-        records[newest].push(row)?;
-        Ok(Simulation {
-            machine,
-            bodies,
-            records,
-            numbers,
-        })
+        // (it has no effect, but tells that the program lies in its limits)
+        let _ = program.parts();
+        let born = newborn(alloc, program, f, point.labels)?;
+        let answer = self.history.enter(Entry::Op { w, g }, Some(point));
+        self.bodies.follow(program, g, answer);
+        self.bodies.gain(answer, born);
+        Ok(())
     }
 
     // g comes to its next point, a shared one, on w.
-    fn act(self, alloc: Global, program: &Program, w: u32, g: u32) -> Result<Simulation<R>, Memory>
-        requires program { program.now ≡ R.program }
-        requires may { May (code_of R.program) R.settings (last (code_of R.program) R.settings self.journal) (entry.Op w g) }
-        ensures { IfOk result (λ s. s ≡ record self { journal = self.journal ++ entry.Op w g ∷ [] }) }
-    {
-        let Simulation {
-            mut machine,
-            mut bodies,
-            records,
-            numbers,
-        } = self;
-        // (it has no effect, but tells that the program lies in its limits)
-        let _ = program.parts();
-        let point = bodies.point(program, g);
-        let answer = machine.apply(Entry::Op { w, g }, Some(point));
-        bodies.follow(alloc, program, g, point, answer)?;
-        Ok(Simulation {
-            machine,
-            bodies,
-            records,
-            numbers,
-        })
-    }
-
-    /// Makes an entry that may come.
-    pub fn make(
-        self,
+    fn act(
+        &mut self,
         alloc: Global,
         program: &Program,
-        made: Entry,
-    ) -> Result<Simulation<R>, Memory>
+        settings: &Settings,
+        w: u32,
+        g: u32,
+    ) -> Result<(), Memory>
         requires program { program.now ≡ R.program }
-        requires may { May (code_of R.program) R.settings (last (code_of R.program) R.settings self.journal) made }
-        ensures { IfOk result (λ s. s ≡ record self { journal = self.journal ++ made ∷ [] }) }
+        requires settings { settings.now ≡ R.settings }
+        requires may { May (code_of R.program) R.settings (state_of R.program R.settings self.old.journal) (entry.Op w g) }
+        ensures ok { OnOk result (self.new ≡ record self.old { journal = self.old.journal ++ entry.Op w g ∷ [] }) }
+        ensures err { OnErr result (self.new ≡ self.old) }
+    {
+        let point = self.bodies.point(program, g);
+        if self.history.machine().births() < settings.cells {
+            if let Operation::Spawn { f } = point.operation {
+                return self.spawn(alloc, program, w, g, point, f);
+            }
+        }
+        self.operate(program, w, g, point);
+        Ok(())
+    }
+
+    /// Makes an entry that may come. What takes memory is made first.
+    pub fn make(
+        &mut self,
+        alloc: Global,
+        program: &Program,
+        settings: &Settings,
+        made: Entry,
+    ) -> Result<(), Memory>
+        requires program { program.now ≡ R.program }
+        requires settings { settings.now ≡ R.settings }
+        requires may { May (code_of R.program) R.settings (state_of R.program R.settings self.old.journal) made }
+        ensures ok { OnOk result (self.new ≡ record self.old { journal = self.old.journal ++ made ∷ [] }) }
+        ensures err { OnErr result (self.new ≡ self.old) }
     {
         match made {
-            Entry::Run { w, g, n } => Ok(self.run(program, w, g, n)),
-            Entry::Op { w, g } => self.act(alloc, program, w, g),
-            Entry::Open { epoch, room } => self.open(alloc, epoch, room),
-            Entry::Record { actor, g } => self.record(alloc, program, actor, g),
-            Entry::Start { .. } => Ok(self.enter(made)),
-            Entry::Tick { .. } => Ok(self.enter(made)),
-            Entry::Park { .. } => Ok(self.enter(made)),
-            Entry::Refuse { .. } => Ok(self.enter(made)),
-            Entry::Close { .. } => Ok(self.enter(made)),
+            Entry::Op { w, g } => return self.act(alloc, program, settings, w, g),
+            Entry::Record { actor, g } => return self.record(alloc, program, actor, g),
+            Entry::Run { w, g, n } => self.run(program, w, g, n),
+            Entry::Open { epoch, room } => self.open(epoch, room),
+            Entry::Close { epoch } => self.close(epoch),
+            Entry::Start { .. } => self.enter(made),
+            Entry::Tick { .. } => self.enter(made),
+            Entry::Park { .. } => self.enter(made),
+            Entry::Refuse { .. } => self.enter(made),
         }
+        Ok(())
     }
 }

@@ -1,7 +1,7 @@
 -- The headline of a run from its parts.
 use Rattle.std.proofs.Common.{◌≡◌, ℕ, List, Option}
 use Rattle.gp_isa.specs.declared.parts.Parts.{Parts}
-use Rattle.gp_machine.specs.declared.settings.Settings.{Settings}
+use Rattle.gp_journal.specs.declared.settings.Settings.{Settings}
 use Rattle.gp_words.specs.declared.jobs.Job.TheVariants.{Sim}
 use Rattle.gp_words.specs.Job.{job_of}
 use Rattle.gp_words.specs.Read.{Names}

@@ -9,7 +9,7 @@ use Rattle.gp_machine.specs.Effect.{after}
 use Rattle.gp_machine.specs.Run.{IsLegal, last}
 use Rattle.gp_machine.specs.Frozen.{rows_taken}
 use Rattle.gp_journal.proofs.Lemmas.{kept_at}
-use Rattle.gp_sim.specs.Profiles.{records_from, records_of}
+use Rattle.gp_journal.specs.Profiles.{records_from, records_of}
 use Rattle.gp_top.specs.Report.{ids_taken, recorded_ids, ids, refusals}
 
 pub refusals_more : (xs : List Entry) (x : Entry) → refusals (xs ++ x ∷ []) ≡ refusals xs ++ refusals (x ∷ [])

@@ -11,7 +11,7 @@ use Rattle.gp_machine.specs.Due.{ended}
 use Rattle.gp_machine.specs.Made.{made_by}
 use Rattle.gp_machine.specs.Run.{last, IsFinished}
 use Rattle.gp_sim.specs.Choice.{sim_journal}
-use Rattle.gp_sim.specs.Profiles.{AreFrozen}
+use Rattle.gp_journal.specs.Profiles.{AreFrozen}
 use Rattle.gp_top.specs.declared.report.Report.{Report}
 
 -- the goroutines that the Record entries up to the first Close name, in their order

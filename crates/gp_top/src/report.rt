@@ -4,7 +4,7 @@ ghost use Rattle.gp_machine.specs.Settings.{AreInRange};
 ghost use Rattle.gp_machine.specs.State.{code_of};
 ghost use Rattle.gp_machine.specs.Run.{last, IsFinished};
 ghost use Rattle.gp_sim.specs.Choice.{sim_journal};
-ghost use Rattle.gp_sim.specs.Profiles.{records_of};
+ghost use Rattle.gp_journal.specs.Profiles.{records_of};
 ghost use Rattle.gp_top.specs.Report as definition;
 ghost use Rattle.gp_top.specs.Report.{AreMade, IsReport};
 
@@ -98,7 +98,11 @@ fn report_on<R: Run>(
     requires records { simulated.records ≡ records_of (code_of R.program) R.settings simulated.machine }
     ensures { IfOk result (IsReport R.program R.settings) }
 {
-    let Simulated { machine, records } = simulated;
+    let Simulated {
+        machine,
+        records,
+        ..
+    } = simulated;
     let refused = refusals(alloc, machine.journal())?;
     let done = instructions(alloc, settings, &machine)?;
     let made = entries_made(alloc, settings, &machine)?;

@@ -1,13 +1,14 @@
 -- The journal so far is that of the choice, and each turn leaves one fewer.
-use Rattle.std.proofs.Common.{◌-◌, length}
-use Rattle.gp_machine.specs.NumberLaws.{most_entries}
-use Rattle.gp_machine.specs.State.{code_of}
-use Rattle.gp_sim.specs.Turns.{IsPartOfSim}
+use Rattle.std.proofs.Common.{◌≡◌, ◌+◌, ◌-◌, length}
+use Rattle.gp_journal.specs.NumberLaws.{most_entries}
+use Rattle.gp_journal.specs.State.{code_of}
+use Rattle.gp_sim.specs.kept.Turns.{IsPartOfSim}
 use Rattle.gp_sim.proofs.full_run.simulate.Given as goal
 
 abbrev pub invariant-loop-actions_to : goal.invariant-loop-actions_to
 invariant-loop-actions_to g l = record {
   part : IsPartOfSim (code_of g.R.Run.program) g.R.Run.settings l.simulation.journal l.simulation.taken;
+  counted : l.turns ≡ length l.simulation.journal + 1;
 }
 
 abbrev pub decreases-loop-actions_to : goal.decreases-loop-actions_to

@@ -1,5 +1,5 @@
 use Rattle.std.proofs.Common.{refl}
-use Rattle.gp_machine.specs.Run.{last}
+use Rattle.gp_journal.specs.Run.{last}
 use Rattle.gp_sim.proofs.Complete.{none_enabled}
 use Rattle.gp_sim.proofs.Enabled.{actions_may, chosen_may}
 use Rattle.gp_sim.proofs.Turns.{sim_is_finished}

@@ -1,6 +1,6 @@
 use Rattle.std.proofs.Common.{ap, ◌∙◌}
 use Rattle.gp_machine.specs.State.{code_of}
-use Rattle.gp_sim.proofs.Recorded.{records_are_frozen}
+use Rattle.gp_journal.proofs.Lemmas.{records_are_frozen}
 use Rattle.gp_top.specs.Report.{refusals as refused_of}
 use Rattle.gp_top.proofs.Reporting.{are_recorded}
 use Rattle.gp_top.proofs.report.report_on.Goals as goal

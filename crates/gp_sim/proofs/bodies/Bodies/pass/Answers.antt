@@ -1,5 +1,5 @@
 use Rattle.std.proofs.Common.{arith}
-use Rattle.gp_sim.proofs.Standing.{moved, as_many}
+use Rattle.gp_journal.proofs.Lemmas.{moved, as_many}
 use Rattle.gp_sim.proofs.bodies.Bodies.pass.Goals as goal
 
 pub returns : goal.returns

@@ -1,10 +1,14 @@
-use Rattle.std.proofs.Common.{sym, subst}
-use Rattle.gp_machine.specs.State.{code_of}
-use Rattle.gp_machine.specs.May.{May}
-use Rattle.gp_machine.specs.Run.{last}
-use Rattle.gp_sim.specs.Simulation.{SoFar}
-use Rattle.gp_sim.proofs.Stepping.{by_quiet}
+use Rattle.std.proofs.Common.{ap, subst}
+use Rattle.gp_journal.specs.State.{code_of}
+use Rattle.gp_sim.specs.kept.Simulation.{SoFar, IsSimulation}
+use Rattle.gp_sim.proofs.Stepping.{quiet_stays, quiet_leaves, by_still}
 use Rattle.gp_sim.proofs.simulation.Simulation.enter.Goals as goal
 
-pub invariant_of-result : goal.invariant_of-result
-invariant_of-result g c = by_quiet (code_of g.R.Run.program) g.R.Run.settings c.self.inside.machine c.self.inside.bodies c.self.inside.records.items c.self.invariant c.args.made c.apply.new.self c.requires.quiet (subst (λ (s : SoFar). May (code_of g.R.Run.program) g.R.Run.settings (last (code_of g.R.Run.program) g.R.Run.settings s.journal) (c.args.made)) (sym c.self.view_is) c.requires.may) c.apply.ensures.journal
+pub enter-requires-clause-leaves : goal.enter-requires-clause-leaves
+enter-requires-clause-leaves g c = quiet_leaves c.args.made c.requires.quiet
+
+pub invariant_of-self : goal.invariant_of-self
+invariant_of-self g c =
+    let j = ap (λ (s : SoFar). s.journal) c.self.view_is in
+    let was = subst (λ (s : SoFar). IsSimulation (code_of g.R.Run.program) g.R.Run.settings s.journal c.self.inside.bodies) c.self.view_is c.self.invariant in
+    rw (c.enter.ensures.journal, j) (by_still (code_of g.R.Run.program) g.R.Run.settings c.args.self.now.journal c.self.inside.bodies was c.args.made (quiet_stays c.args.made c.requires.quiet) c.requires.may)

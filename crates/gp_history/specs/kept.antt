@@ -1,0 +1,3 @@
+-- What is kept in place. No clause of a public call cites it.
+pub mod Recorder
+pub mod History

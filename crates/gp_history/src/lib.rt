@@ -1,0 +1,34 @@
+//! What a run leaves behind, entry by entry: the machine with its journal, and the records of its goroutine profiles.
+//!
+//! A `History` is what whoever drives a run keeps of it. Its value is the journal, and all that it keeps beside are
+//! functions of the journal: the machine's state, and for each profile that was opened the list of its records, which
+//! are the rows of its Record entries in their order (`records_of` of `gp_journal`), so that sorted they are the rows of
+//! all goroutines that were live at its Open. There is one call for each kind of entry, in place, which takes what the
+//! entry leaves and carries all of that on: `enter` for entries of workers and for a Refuse, `open`, `record` with the
+//! copy of the goroutine's row, and `close`. Who acts, and where bodies stand, is the driver's.
+//!
+//! No call but `new` takes memory, so none of them can fail once an entry is chosen. `new` reserves a list for each
+//! request, with room for as many records as a profile can have: no more than there are cells, and no more than the
+//! room that the options give, above which a profile is refused. That it is enough follows from a law of journals: the
+//! records made and the goroutines that have still to be recorded are together those that were live at the Open.
+//!
+//! What one Record leaves: `main` has spawned goroutine 1, and one profile is asked for, with room for three records.
+//! `·` is a place that is reserved. `record(1, 0, copy)` is the profiler's entry for goroutine 0, which stands at line 3
+//! of `main`, and `copy` is its row.
+//!
+//! ```text
+//!          machine                                                    records of profile 1        to be recorded
+//!          Start{0, 0} Op{0, 0} Park{0, 0}                            ·  ·  ·     not begun
+//! open     Start{0, 0} Op{0, 0} Park{0, 0} Open{1, 3}                 ·  ·  ·     begun           0 and 1
+//! record   Start{0, 0} Op{0, 0} Park{0, 0} Open{1, 3} Record{1, 0}    (0, main:3, no labels)  ·  ·    1
+//! ```
+//!
+//! `specs/History.antt` has what the calls ask for; `specs/Recorder.antt` what the lists are to the history, and
+//! `specs/kept/` what is kept in place.
+#![tactic(auto)]
+
+mod history;
+mod recorder;
+mod rows;
+
+pub use history::{History, HistoryParts};
