@@ -1,10 +1,12 @@
 -- What an entry tells: who was woken, who was born, whose trace ended, and how long somebody waited.
-use Rattle.std.specs.Prelude.{◌-◌, ◌*◌, ℕ, max, Bool, true, false, List, [], ◌∷◌, if◌then◌else◌, nat_lt, Option, Some, None}
-use Rattle.gp_isa.specs.Trace.{Instruction, Local, Labels, Send, Recv, Lock, Unlock, Spawn}
+use Rattle.std.specs.Prelude.{◌-◌, ◌*◌, ℕ, max, Bool, false, List, [], ◌∷◌, if◌then◌else◌, nat_lt, Option, Some, None}
+pub use Rattle.gp_isa.specs.Limits.{instruction_time}
+use Rattle.gp_isa.specs.Trace.{Instruction, Unlock}
+use Rattle.gp_stack.specs.Peek.{operation_of}
 use Rattle.gp_sync.specs.declared.effect.Effect.{Effect}
 use Rattle.gp_sync.specs.declared.effect.Effect.TheVariants as effect
 use Rattle.gp_sync.specs.declared.effect.Waiter.{Waiter}
-use Rattle.gp_sync.specs.Operations.{Mutex, send, recv, lock, unlock}
+use Rattle.gp_sync.specs.Operations.{Mutex}
 use Rattle.gp_journal.specs.declared.answer.Applied.{Applied}
 use Rattle.gp_journal.specs.declared.answer.Applied.TheVariants.{Plain, Passed, Born, Blocked, Fault}
 use Rattle.gp_journal.specs.declared.answer.Foreseen.{Foreseen}
@@ -12,13 +14,9 @@ use Rattle.gp_journal.specs.declared.entry.Entry.{Entry}
 use Rattle.gp_journal.specs.declared.entry.Entry.TheVariants.{Run, Op}
 use Rattle.gp_journal.specs.declared.goroutine.Goroutine.{Goroutine}
 use Rattle.gp_journal.specs.declared.settings.Settings.{Settings}
-use Rattle.gp_journal.specs.State.{Code, State, goroutine, channel, mutex, births}
+use Rattle.gp_journal.specs.State.{Code, State, goroutine, mutex, births}
 use Rattle.gp_journal.specs.Due.{next_instruction}
-use Rattle.gp_journal.specs.Effect.{is_over_after, waiter}
-
--- how many nanoseconds an instruction counts as
-abbrev pub instruction_time : ℕ
-instruction_time = 1000
+use Rattle.gp_journal.specs.Effect.{is_over_after, is_last_point, unlock_of_free, no_cell, Outcome, Meets, Spawns, Stays, outcome_of}
 
 -- The delay of a block event: from the clock at which the goroutine blocked to that at which it was woken, in
 -- nanoseconds, and 1 at least.
@@ -54,24 +52,32 @@ abbrev pub answer_to : Bool → Bool → Effect → Applied
 answer_to contended died effect.Done = Passed None None died
 answer_to contended died (effect.Wakes g since) = Passed (Some (record { g = g; since = since; contended = contended })) None died
 answer_to contended died effect.Blocks = Blocked
-answer_to contended died effect.Fault = Fault 1
+answer_to contended died effect.Fault = Fault unlock_of_free
+
+-- the answer where a goroutine is to be born
+abbrev pub spawn_answer : Settings → Bool → State → Applied
+spawn_answer settings died state = if nat_lt (births state) settings.cells then Born (births state) died else Fault no_cell
+
+-- the answer to what an operation comes to
+abbrev pub told : Settings → Bool → Outcome → State → Applied
+told settings died (Meets unlocks effect left) state = answer_to unlocks died effect
+told settings died (Spawns function) state = spawn_answer settings died state
+told settings died Stays state = Plain false
 
 -- the answer to an operation of g
 unfoldable pub operation_answer : Code → Settings → ℕ → Bool → Instruction → State → Applied
-operation_answer code settings g died (Send c) state = answer_to false died (send (code.capacity c) (channel state c) (waiter state g)).0
-operation_answer code settings g died (Recv c) state = answer_to false died (recv (channel state c) (waiter state g)).0
-operation_answer code settings g died (Lock m) state = answer_to false died (lock (mutex state m) (waiter state g)).0
-operation_answer code settings g died (Unlock m) state = answer_to true died (unlock (mutex state m)).0
-operation_answer code settings g died (Spawn function) state = if nat_lt (births state) settings.cells then Born (births state) died else Fault 2
-operation_answer code settings g died Local state = Plain false
-operation_answer code settings g died (Labels s) state = Plain false
+operation_answer code settings g died instruction state = told settings died (outcome_of code g (operation_of instruction) state) state
+
+-- the answer where g passes the point at which it waited
+abbrev pub resume_answer : Bool → Goroutine → Applied
+resume_answer died g = Passed None (Some (record { delay = block_delay g })) died
 
 -- the answer to an Op of g
 abbrev pub op_answer : Code → Settings → ℕ → State → Applied
 op_answer code settings g state =
-    let died = is_over_after code 1 (goroutine state g) in
+    let died = is_last_point code state g in
     if (goroutine state g).granted
-    then Passed None (Some (record { delay = block_delay (goroutine state g) })) died
+    then resume_answer died (goroutine state g)
     else operation_answer code settings g died (next_instruction code state g) state
 
 -- The answer to an entry.

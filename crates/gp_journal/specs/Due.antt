@@ -8,6 +8,7 @@ use Rattle.gp_journal.specs.declared.entry.Entry.TheVariants.{Run, Op, Tick, Par
 use Rattle.gp_journal.specs.declared.entry.Ended.{Ended}
 use Rattle.gp_journal.specs.declared.entry.Ended.TheVariants.{Main, Fault, Full, Deadlock}
 use Rattle.gp_journal.specs.declared.goroutine.Goroutine.{Goroutine}
+use Rattle.gp_journal.specs.declared.goroutine.Worker.{Worker}
 use Rattle.gp_journal.specs.declared.settings.Request.{Request}
 use Rattle.gp_journal.specs.declared.settings.Request.TheVariants.{Clock, End}
 use Rattle.gp_journal.specs.declared.settings.Settings.{Settings}
@@ -64,12 +65,16 @@ ended state =
 abbrev pub next_instruction : Code → State → ℕ → Instruction
 next_instruction code state g = (next_point (trace_of code (goroutine state g)) (goroutine state g).count).instruction
 
+-- how many instructions of a worker are left to its next CPU tick
+abbrev pub to_tick : Settings → Worker → ℕ
+to_tick settings w = period settings - w.instructions % period settings
+
 -- how many local points a Run of g on w passes: up to the next shared point or the trace's end, the next multiple
 -- of the tick's period, or the quantum
 unfoldable pub extent : Code → Settings → State → ℕ → ℕ → ℕ
 extent code settings state w g =
     min (local_ahead (trace_of code (goroutine state g)) (goroutine state g).count)
-    (min (period settings - (worker state w).instructions % period settings) (quantum - (worker state w).slice))
+    (min (to_tick settings (worker state w)) (quantum - (worker state w).slice))
 
 -- What is due while w runs g: a Tick where its tick is due; else a Park where g has to make way, for a profile, at the
 -- end of the run or of the slice; else an Op where the next point is shared; else a Run.

@@ -1,7 +1,10 @@
 -- The effect of each entry. What an entry doesn't name stays.
-use Rattle.std.specs.Prelude.{◌+◌, ◌%◌, ℕ, Bool, true, false, not, ◌&&◌, ◌||◌, ◌==◌, [], ◌∷◌, ◌++◌, set, drop, filter, if◌then◌else◌, nat_lt, Some, None}
-use Rattle.gp_isa.specs.Trace.{Instruction, Local, Labels, Send, Recv, Lock, Unlock, Spawn}
+use Rattle.std.specs.Prelude.{◌+◌, ◌%◌, ℕ, Bool, true, false, not, ◌&&◌, ◌||◌, ◌==◌, [], ◌∷◌, ◌++◌, set, drop, filter, if◌then◌else◌, nat_lt, Option, Some, None}
+use Rattle.gp_isa.specs.Trace.{Instruction}
+use Rattle.gp_stack.specs.declared.statement.Operation.{Operation}
+use Rattle.gp_stack.specs.declared.statement.Operation.TheVariants as operation
 use Rattle.gp_stack.specs.Goroutine.{is_ended, labels_of}
+use Rattle.gp_stack.specs.Peek.{operation_of}
 use Rattle.gp_sync.specs.declared.effect.Effect.{Effect}
 use Rattle.gp_sync.specs.declared.effect.Effect.TheVariants.{Done, Blocks, Wakes, Fault}
 use Rattle.gp_sync.specs.declared.effect.Waiter.{Waiter}
@@ -72,6 +75,10 @@ worked settings n died w = record w {
   tick = w.tick || (not died && ((w.instructions + n) % period settings == 0));
 }
 
+-- whether the trace of g ends with its next point
+abbrev pub is_last_point : Code → State → ℕ → Bool
+is_last_point code state g = is_over_after code 1 (goroutine state g)
+
 -- the state with another goroutine at a number
 abbrev pub with_goroutine : ℕ → Goroutine → State → State
 with_goroutine g new state = record state { goroutines = set state.goroutines g new }
@@ -98,7 +105,9 @@ unqueued g state = record state { queue = filter (λ other. not (other == g)) st
 
 -- w begins to run g
 abbrev pub starts : ℕ → ℕ → State → State
-starts w g state = unqueued g (with_worker w (started g (worker state w)) (with_goroutine g (turned (Running w) (goroutine state g)) state))
+starts w g state =
+    unqueued g
+    (with_worker w (started g (worker state w)) (with_goroutine g (turned (Running w) (goroutine state g)) state))
 
 -- g leaves w with another status
 abbrev pub leaves : ℕ → ℕ → Goroutine → State → State
@@ -133,26 +142,28 @@ labels_at code g = labels_of (trace_of code g) g.set g.count
 abbrev pub child_of : Code → ℕ → ℕ → State → Goroutine
 child_of code function g state = newborn function (labels_at code (goroutine state g)) state.last_epoch
 
--- It is born under the next number, and goes to the tail of the queue.
-abbrev pub bears : Code → ℕ → ℕ → State → State
-bears code function g state =
+-- One that is born gets the next number, and goes to the tail of the queue.
+abbrev pub born : Goroutine → State → State
+born new state =
     let after = queued (births state) state in
-    record after { goroutines = state.goroutines ++ child_of code function g state ∷ [] }
+    record after { goroutines = state.goroutines ++ new ∷ [] }
+
+abbrev pub bears : Code → ℕ → ℕ → State → State
+bears code function g state = born (child_of code function g state) state
+
+-- The causes of faults: an unlock of a free mutex, and a goroutine that is to be born where no cell is left.
+abbrev pub unlock_of_free : ℕ
+unlock_of_free = 1
+
+abbrev pub no_cell : ℕ
+no_cell = 2
 
 -- What an operation's effect does to the state.
 unfoldable pub meets : Code → Settings → ℕ → ℕ → Effect → State → State
 meets code settings w g Done state = passes code settings w g 1 state
 meets code settings w g (Wakes h since) state = passes code settings w g 1 (wakes h state)
 meets code settings w g Blocks state = blocks w g state
-meets code settings w g Fault state = faults 1 w g state
-
--- the effect of an operation on a channel, with what it leaves there
-abbrev pub meets_channel : Code → Settings → ℕ → ℕ → ℕ → Effect × Channel → State → State
-meets_channel code settings w g c outcome state = meets code settings w g outcome.0 (with_channel c outcome.1 state)
-
--- the same on a mutex
-abbrev pub meets_mutex : Code → Settings → ℕ → ℕ → ℕ → Effect × Mutex → State → State
-meets_mutex code settings w g m outcome state = meets code settings w g outcome.0 (with_mutex m outcome.1 state)
+meets code settings w g Fault state = faults unlock_of_free w g state
 
 -- g as a waiter from now on
 abbrev pub waiter : State → ℕ → Waiter
@@ -163,17 +174,56 @@ abbrev pub spawns : Code → Settings → ℕ → ℕ → ℕ → State → Stat
 spawns code settings w g function state =
     if nat_lt (births state) settings.cells
     then passes code settings w g 1 (bears code function g state)
-    else faults 2 w g state
+    else faults no_cell w g state
 
--- The point of g decides what is done. A local point is no operation.
+-- What an operation comes to.
+pub data Outcome : Type 0 where
+  -- an effect on the goroutine that makes it, in a state in which its channel or mutex has what the operation leaves
+  -- there; `unlocks` tells that a mutex was unlocked
+  Meets : (unlocks : Bool) → Effect → State → Outcome
+  -- a goroutine to be born
+  Spawns : (function : ℕ) → Outcome
+  -- nothing, since a local point is no operation
+  Stays : Outcome
+
+-- whether an operation unlocks a mutex
+abbrev pub unlocks : Operation → Bool
+unlocks (operation.Unlock m) = true
+unlocks _ = false
+
+-- the function of the goroutine that an operation bears, if it bears one
+abbrev pub spawned : Operation → Option ℕ
+spawned (operation.Spawn function) = Some function
+spawned _ = None
+
+-- an operation on a channel, and one on a mutex, with what they leave
+abbrev pub on_channel : State → ℕ → Effect × Channel → Outcome
+on_channel state c done = Meets false done.0 (with_channel c done.1 state)
+
+abbrev pub on_mutex : Bool → State → ℕ → Effect × Mutex → Outcome
+on_mutex unlocks state m done = Meets unlocks done.0 (with_mutex m done.1 state)
+
+-- An operation of g.
+abbrev pub outcome_at : Code → ℕ → Operation → State → Outcome
+outcome_at code g (operation.Send c) state = on_channel state c (send (code.capacity c) (channel state c) (waiter state g))
+outcome_at code g (operation.Recv c) state = on_channel state c (recv (channel state c) (waiter state g))
+outcome_at code g (operation.Lock m) state = on_mutex false state m (lock (mutex state m) (waiter state g))
+outcome_at code g (operation.Unlock m) state = on_mutex true state m (unlock (mutex state m))
+outcome_at code g (operation.Spawn function) state = Spawns function
+
+-- Where a point is shared its operation is made.
+abbrev pub outcome_of : Code → ℕ → Option Operation → State → Outcome
+outcome_of code g (Some made) state = outcome_at code g made state
+outcome_of code g None state = Stays
+
+-- what comes of it
+abbrev pub comes_to : Code → Settings → ℕ → ℕ → Outcome → State → State
+comes_to code settings w g (Meets unlocks effect left) state = meets code settings w g effect left
+comes_to code settings w g (Spawns function) state = spawns code settings w g function state
+comes_to code settings w g Stays state = state
+
 unfoldable pub operates : Code → Settings → ℕ → ℕ → Instruction → State → State
-operates code settings w g (Send c) state = meets_channel code settings w g c (send (code.capacity c) (channel state c) (waiter state g)) state
-operates code settings w g (Recv c) state = meets_channel code settings w g c (recv (channel state c) (waiter state g)) state
-operates code settings w g (Lock m) state = meets_mutex code settings w g m (lock (mutex state m) (waiter state g)) state
-operates code settings w g (Unlock m) state = meets_mutex code settings w g m (unlock (mutex state m)) state
-operates code settings w g (Spawn function) state = spawns code settings w g function state
-operates code settings w g Local state = state
-operates code settings w g (Labels s) state = state
+operates code settings w g instruction state = comes_to code settings w g (outcome_of code g (operation_of instruction) state) state
 
 -- A goroutine with the mark loses it and passes its point.
 abbrev pub resumes : Code → Settings → ℕ → ℕ → State → State

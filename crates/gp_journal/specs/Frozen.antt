@@ -1,7 +1,8 @@
 -- The rows of a goroutine profile: what a profile has to show, and what the Record entries take.
 use Rattle.std.specs.Prelude.{◌≡◌, refl, ℕ, suc, Bool, List, [], ◌∷◌, take, if◌then◌else◌, nat_le}
 use Rattle.gp_stack.specs.declared.record.Record.{Record as Row}
-use Rattle.gp_stack.specs.Goroutine.{stack_of, labels_of, frame_limit}
+use Rattle.gp_isa.specs.Limits.{goroutine_frames}
+use Rattle.gp_stack.specs.Goroutine.{stack_of, labels_of}
 use Rattle.gp_journal.specs.declared.entry.Entry.{Entry}
 use Rattle.gp_journal.specs.declared.entry.Entry.TheVariants.{Record, Close}
 use Rattle.gp_journal.specs.declared.goroutine.Goroutine.{Goroutine}
@@ -13,7 +14,7 @@ use Rattle.gp_journal.specs.Effect.{after}
 abbrev pub row : Code → ℕ → Goroutine → Row
 row code g it = record {
   g = g;
-  stack = take frame_limit (stack_of (trace_of code it) it.count);
+  stack = take goroutine_frames (stack_of (trace_of code it) it.count);
   set = labels_of (trace_of code it) it.set it.count;
 }
 

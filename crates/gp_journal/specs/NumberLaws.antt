@@ -1,5 +1,6 @@
 -- Laws on the numbers of legal journals.
 use Rattle.std.specs.Prelude.{◌≡◌, ◌⊎◌, ◌+◌, ◌*◌, ◌≤◌, ◌<◌, ℕ, true, List, length, sum_by}
+use Rattle.gp_isa.specs.Limits.{most_requests}
 use Rattle.gp_journal.specs.declared.entry.Entry.{Entry}
 use Rattle.gp_journal.specs.declared.goroutine.Worker.{Worker}
 use Rattle.gp_journal.specs.declared.settings.Settings.{Settings}
@@ -19,7 +20,7 @@ pub record KeepsNumbers (settings : Settings) (state : State) : Type 0 where
   pub slice_bound : (w : ℕ) → (worker state w).slice ≤ quantum
   pub births_bound : births state ≤ settings.cells
   pub live_bound : (g : ℕ) → is_live (goroutine state g) ≡ true → g < settings.cells
-  pub epoch_bound : state.last_epoch ≤ 8
+  pub epoch_bound : state.last_epoch ≤ most_requests
 
 -- That holds at every step of a legal journal.
 abbrev pub NumbersHold : Type 0
@@ -28,7 +29,7 @@ NumbersHold = (code : Code) (settings : Settings) (journal : List Entry) (k : �
 
 -- the most entries of a legal journal
 abbrev pub most_entries : Settings → ℕ
-most_entries settings = settings.entries + 8 * (settings.cells + 2) + 2 * settings.workers + 2
+most_entries settings = settings.entries + most_requests * (settings.cells + 2) + 2 * settings.workers + 2
 
 -- A legal journal has no more.
 abbrev pub EntriesAreBounded : Type 0

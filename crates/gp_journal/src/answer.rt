@@ -1,5 +1,11 @@
 use gp_stack::Operation;
 
+/// The cause of the fault that an unlock of a free mutex makes.
+pub const UNLOCK_OF_FREE: u8 = 1;
+
+/// The cause of the fault that is made where a goroutine is to be born and no cell is left.
+pub const NO_CELL: u8 = 2;
+
 /// A goroutine's next point where it is shared: what it does, and the labels that the goroutine has there, which one
 /// that is born of it inherits.
 #[derive(Clone, Copy, Debug, PartialEq, Eq)]
@@ -30,7 +36,7 @@ pub enum Applied {
     },
     /// The goroutine waits now.
     Blocked,
-    /// A fault was made: 1 is an unlock of a free mutex, 2 that no cell was left.
+    /// A fault was made, by `UNLOCK_OF_FREE` or `NO_CELL`.
     Fault {
         cause: u8,
     },

@@ -38,7 +38,7 @@ pub enum Entry {
 pub enum Ended {
     /// `main` came to its end.
     Main,
-    /// 1: an unlock of a free mutex; 2: no cell was left for a goroutine to be born.
+    /// By `UNLOCK_OF_FREE`, or by `NO_CELL`.
     Fault { cause: u8 },
     /// The journal has at least as many entries as the option `entries` says, and a goroutine could go on.
     Full,

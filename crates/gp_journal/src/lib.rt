@@ -8,6 +8,24 @@
 //! each recorded before it does, by the profiler or by an idle worker, and the profile is closed once all are. Epochs
 //! number the profiles, and a goroutine whose epoch is below the active one has still to be recorded.
 //!
+//! A run of `func main { spawn f, work 5 }` and `func f { work 2 }` by one worker, with a profile asked for at clock 1.
+//! Main is goroutine 0; the worker is actor 0, and the profiler actor 1:
+//!
+//! ```text
+//! entry           clock  runs  queue  to record
+//! Start{0, 0}         0     0      -          -
+//! Op{0, 0}            1     0      1          -  main spawns goroutine 1
+//! Park{0, 0}          1     -    1 0          -  a profile is asked for, so main makes way
+//! Open{1, 2}          1     -    1 0        0 1  what is live now has to be recorded before it runs again
+//! Record{1, 0}        1     -    1 0          1  the profiler takes main's row
+//! Record{1, 1}        1     -    1 0          -
+//! Close{1}            1     -    1 0          -
+//! Start{0, 1}         1     1      0          -
+//! Run{0, 1, 2}        3     -      0          -  the trace of goroutine 1 is at its end
+//! Start{0, 0}         3     0      -          -
+//! Run{0, 0, 5}        8     -      -          -  and so is main's: the run is over
+//! ```
+//!
 //! This crate has the data (entries, goroutines, workers, options, answers) and the definitions, and runs nothing:
 //! `gp_machine` runs by them. They are in `specs/`, to be read in this order: `Settings`, `State` (what a machine
 //! keeps), `Due` (when a profile is asked for, when a run is over, what is due), `May` (the condition of each entry),
@@ -33,7 +51,7 @@ mod laws;
 mod run;
 mod settings;
 
-pub use answer::{Applied, Foreseen, SharedPoint, Wait, Woken};
+pub use answer::{Applied, Foreseen, NO_CELL, SharedPoint, UNLOCK_OF_FREE, Wait, Woken};
 pub use entry::{Counts, Ended, Entry, Journal, Refusals};
 pub use goroutine::{Goroutine, Status, Worker};
 pub use laws::{law_entries, law_journal, law_numbers, law_records, law_runs, law_worked};

@@ -1,5 +1,5 @@
 -- What an Op needs where it is due, and what it does by its operation.
-use Rattle.std.proofs.Common.{◌≡◌, ℕ, ◌<◌, ◌≤◌, true, false, zero, suc, List, [], ◌∷◌, length, get_or, set, sum_by, Some, refl, sym, ap, ◌∙◌, subst, arith, if◌then◌else◌, nat_lt}
+use Rattle.std.proofs.Common.{◌≡◌, ℕ, ◌<◌, ◌≤◌, Bool, false, zero, suc, List, [], ◌∷◌, length, get_or, set, sum_by, Some, refl, sym, ap, ◌∙◌, subst, arith, if◌then◌else◌}
 use Rattle.std.proofs.lemmas.List.{get_or_past}
 use Rattle.std.proofs.lemmas.List.Sums.{sum_by-cons}
 use Rattle.gp_isa.specs.declared.parts.Parts.{Parts}
@@ -7,6 +7,7 @@ use Rattle.gp_isa.specs.InLimits.{AreInLimits}
 use Rattle.gp_isa.specs.Names.{IsThere}
 use Rattle.gp_isa.specs.Trace.{Instruction, Local, Labels, Send, Recv, Lock, Unlock, Spawn}
 use Rattle.gp_stack.specs.Peek.{operation_of}
+use Rattle.gp_stack.specs.declared.statement.Operation.{Operation}
 use Rattle.gp_stack.specs.declared.statement.Operation.TheVariants as operation
 use Rattle.gp_sync.specs.declared.effect.Effect.{Effect}
 use Rattle.gp_sync.specs.declared.effect.Effect.TheVariants.{Done, Blocks, Wakes, Fault}
@@ -18,64 +19,57 @@ use Rattle.gp_journal.specs.declared.settings.Settings.{Settings}
 use Rattle.gp_journal.specs.Settings.{AreInRange, quantum}
 use Rattle.gp_journal.specs.State.{Code, State, code_of, resting, goroutine, channel, mutex, births, nobody, is_runnable}
 use Rattle.gp_journal.specs.Due.{next_instruction}
-use Rattle.gp_journal.specs.Effect.{waiter, acts, operates, spawns, meets_channel, meets_mutex, is_over_after}
-use Rattle.gp_journal.specs.Answer.{answer_to, op_answer, operation_answer}
-use Rattle.gp_journal.specs.declared.answer.Applied.TheVariants.{Born, Fault as FaultAnswer}
-use Rattle.gp_journal.proofs.Lemmas.{seats, IsWhole, live_within, live_status, one_if_eq, Balances, blocked_by, send_moves, recv_moves, lock_moves, unlock_moves, HasPlaces, last_has_places, is_whole, holds_runnable, absent_unless, has_come, is_kept, clock_fits, next_named}
-use Rattle.gp_machine.specs.Present.{IsReached, CanCount, CanMeet, CanWake}
+use Rattle.gp_journal.specs.Effect.{waiter, acts, operates, is_last_point, Outcome, Meets, Spawns, outcome_at, comes_to, spawned}
+use Rattle.gp_journal.specs.Answer.{told, op_answer, operation_answer}
+use Rattle.gp_journal.proofs.Lemmas.{with_wait_lists, seats, IsWhole, live_within, live_status, one_if_eq, Balances, blocked_by, send_moves, recv_moves, lock_moves, unlock_moves, HasPlaces, last_has_places, is_whole, holds_runnable, absent_unless, has_come, is_kept, clock_fits, next_named}
+use Rattle.gp_journal.specs.Reached.{IsReached, Runs}
+use Rattle.gp_machine.specs.kept.Present.{CanCount, CanMeet, CanWake}
 use Rattle.gp_journal.specs.Standing.{times}
 use Rattle.gp_journal.specs.declared.goroutine.Status.TheVariants.{Blocked}
-
--- the instruction of an operation
-send_of : (i : Instruction) (c : ℕ) → operation_of i ≡ Some (operation.Send c) → i ≡ Send c
-send_of Local c e = absurd (cc)
-send_of (Labels l) c e = absurd (cc)
-send_of (Send d) c e = cc
-send_of (Recv d) c e = absurd (cc)
-send_of (Lock m) c e = absurd (cc)
-send_of (Unlock m) c e = absurd (cc)
-send_of (Spawn f) c e = absurd (cc)
-
-recv_of : (i : Instruction) (c : ℕ) → operation_of i ≡ Some (operation.Recv c) → i ≡ Recv c
-recv_of Local c e = absurd (cc)
-recv_of (Labels l) c e = absurd (cc)
-recv_of (Send d) c e = absurd (cc)
-recv_of (Recv d) c e = cc
-recv_of (Lock m) c e = absurd (cc)
-recv_of (Unlock m) c e = absurd (cc)
-recv_of (Spawn f) c e = absurd (cc)
-
-lock_of : (i : Instruction) (m : ℕ) → operation_of i ≡ Some (operation.Lock m) → i ≡ Lock m
-lock_of Local m e = absurd (cc)
-lock_of (Labels l) m e = absurd (cc)
-lock_of (Send d) m e = absurd (cc)
-lock_of (Recv d) m e = absurd (cc)
-lock_of (Lock n) m e = cc
-lock_of (Unlock n) m e = absurd (cc)
-lock_of (Spawn f) m e = absurd (cc)
-
-unlock_of : (i : Instruction) (m : ℕ) → operation_of i ≡ Some (operation.Unlock m) → i ≡ Unlock m
-unlock_of Local m e = absurd (cc)
-unlock_of (Labels l) m e = absurd (cc)
-unlock_of (Send d) m e = absurd (cc)
-unlock_of (Recv d) m e = absurd (cc)
-unlock_of (Lock n) m e = absurd (cc)
-unlock_of (Unlock n) m e = cc
-unlock_of (Spawn f) m e = absurd (cc)
-
-spawn_of : (i : Instruction) (f : ℕ) → operation_of i ≡ Some (operation.Spawn f) → i ≡ Spawn f
-spawn_of Local f e = absurd (cc)
-spawn_of (Labels l) f e = absurd (cc)
-spawn_of (Send d) f e = absurd (cc)
-spawn_of (Recv d) f e = absurd (cc)
-spawn_of (Lock n) f e = absurd (cc)
-spawn_of (Unlock n) f e = absurd (cc)
-spawn_of (Spawn h) f e = cc
 
 member_le : (f : Worker → ℕ) (ws : List Worker) (w : ℕ) → f resting ≡ 0 → f (get_or ws w resting) ≤ sum_by f ws
 member_le f [] w none = omega arith
 member_le f (v ∷ ws) zero none = omega (arith, sum_by-cons f v ws)
 member_le f (v ∷ ws) (suc w) none = omega (arith, sum_by-cons f v ws, member_le f ws w none)
+
+some_is : {a b : Operation} → Some a ≡ Some b → a ≡ b
+some_is e = cc
+
+-- the channel or mutex of an operation is there
+abbrev pub HasPlace : State → Operation → Type 0
+HasPlace s (operation.Send c) = c < length s.channels
+HasPlace s (operation.Recv c) = c < length s.channels
+HasPlace s (operation.Lock m) = m < length s.mutexes
+HasPlace s (operation.Unlock m) = m < length s.mutexes
+HasPlace s (operation.Spawn f) = Unit {0}
+
+there_at : (program : Parts) (s : State) (made : Operation) → HasPlaces (length program.channels) (length program.mutexes) s →
+    (i : Instruction) → IsThere program i → operation_of i ≡ Some made → HasPlace s made
+there_at program s made places Local there e = absurd (cc)
+there_at program s made places (Labels l) there e = absurd (cc)
+there_at program s made places (Send c) there e = subst (HasPlace s) (some_is e) (let many = places.of_channels in omega (arith, there))
+there_at program s made places (Recv c) there e = subst (HasPlace s) (some_is e) (let many = places.of_channels in omega (arith, there))
+there_at program s made places (Lock m) there e = subst (HasPlace s) (some_is e) (let many = places.of_mutexes in omega (arith, there))
+there_at program s made places (Unlock m) there e = subst (HasPlace s) (some_is e) (let many = places.of_mutexes in omega (arith, there))
+there_at program s made places (Spawn f) there e = subst (HasPlace s) (some_is e) tt
+
+-- the effect of an outcome, and the state that it is met in
+abbrev effect_of : Outcome → Effect
+effect_of (Meets contended effect left) = effect
+effect_of _ = Done
+
+abbrev left_of : State → Outcome → State
+left_of s (Meets contended effect left) = left
+left_of s _ = s
+
+-- an operation leaves all but the wait lists
+lists_alone : (code : Code) (g : ℕ) (made : Operation) (s : State) →
+    let left = left_of s (outcome_at code g made s) in left ≡ with_wait_lists left.channels left.mutexes s
+lists_alone code g (operation.Send c) s = refl
+lists_alone code g (operation.Recv c) s = refl
+lists_alone code g (operation.Lock m) s = refl
+lists_alone code g (operation.Unlock m) s = refl
+lists_alone code g (operation.Spawn f) s = refl
 
 module _ (program : Parts) (settings : Settings) (s : State) (reached : IsReached (code_of program) settings s) (range : AreInRange settings) where
   code : Code
@@ -99,20 +93,9 @@ module _ (program : Parts) (settings : Settings) (s : State) (reached : IsReache
       let slice = numbered.slices w in
       record { clock = omega arith; count = omega arith; instructions = omega arith; slice = omega arith }
 
-  named : (g : ℕ) (i : Instruction) → AreInLimits program → next_instruction (code_of program) s g ≡ i → IsThere program i
-  named g i limits e = subst (IsThere program) e (next_named program s g limits)
-
-  pub send_there : (g c : ℕ) → AreInLimits program → operation_of (next_instruction (code_of program) s g) ≡ Some (operation.Send c) → c < length s.channels
-  send_there g c limits e = rw places.of_channels (named g (Send c) limits (send_of _ c e))
-
-  pub recv_there : (g c : ℕ) → AreInLimits program → operation_of (next_instruction (code_of program) s g) ≡ Some (operation.Recv c) → c < length s.channels
-  recv_there g c limits e = rw places.of_channels (named g (Recv c) limits (recv_of _ c e))
-
-  pub lock_there : (g m : ℕ) → AreInLimits program → operation_of (next_instruction (code_of program) s g) ≡ Some (operation.Lock m) → m < length s.mutexes
-  lock_there g m limits e = rw places.of_mutexes (named g (Lock m) limits (lock_of _ m e))
-
-  pub unlock_there : (g m : ℕ) → AreInLimits program → operation_of (next_instruction (code_of program) s g) ≡ Some (operation.Unlock m) → m < length s.mutexes
-  unlock_there g m limits e = rw places.of_mutexes (named g (Unlock m) limits (unlock_of _ m e))
+  -- the channel or mutex of an operation is there
+  pub is_there : (g : ℕ) (made : Operation) → AreInLimits program → operation_of (next_instruction (code_of program) s g) ≡ Some made → HasPlace s made
+  is_there g made limits e = there_at program s made places (next_instruction (code_of program) s g) (next_named program s g limits) e
 
   -- one that is blocked can be woken
   can_wake : (h : ℕ) → (goroutine s h).status ≡ Blocked → CanWake settings s h
@@ -125,7 +108,7 @@ module _ (program : Parts) (settings : Settings) (s : State) (reached : IsReache
         absent = absent_unless (code_of program) settings s reached h Blocked blocked refl;
       }
 
-  -- whom an operation wakes can be woken
+  -- whom an effect wakes can be woken
   meets_ready : (g : ℕ) (cs : List Channel) (ms : List Mutex) (effect : Effect) → ((k : ℕ) → Balances effect g k (places_of s.channels s.mutexes k) (places_of cs ms k)) → CanMeet settings s effect
   meets_ready g cs ms Done balance = tt
   meets_ready g cs ms Blocks balance = tt
@@ -136,74 +119,67 @@ module _ (program : Parts) (settings : Settings) (s : State) (reached : IsReache
       let seat : 1 ≤ seats (goroutine s h).status = let b = whole.waits h in omega arith in
       can_wake h (blocked_by (goroutine s h).status seat)
 
-  pub send_ready : (g c capacity : ℕ) → CanMeet settings s (send capacity (channel s c) (waiter s g)).0
-  send_ready g c capacity =
-      let outcome = send capacity (channel s c) (waiter s g) in
-      meets_ready g (set s.channels c outcome.1) s.mutexes outcome.0 (λ k. send_moves s.channels s.mutexes (waiter s g) k c capacity)
-
-  pub recv_ready : (g c : ℕ) → CanMeet settings s (recv (channel s c) (waiter s g)).0
-  recv_ready g c =
+  -- whom an operation wakes can be woken
+  made_ready : (g : ℕ) (made : Operation) → CanMeet settings s (effect_of (outcome_at (code_of program) g made s))
+  made_ready g (operation.Send c) =
+      let outcome = send ((code_of program).capacity c) (channel s c) (waiter s g) in
+      meets_ready g (set s.channels c outcome.1) s.mutexes outcome.0 (λ k. send_moves s.channels s.mutexes (waiter s g) k c ((code_of program).capacity c))
+  made_ready g (operation.Recv c) =
       let outcome = recv (channel s c) (waiter s g) in
       meets_ready g (set s.channels c outcome.1) s.mutexes outcome.0 (λ k. recv_moves s.channels s.mutexes (waiter s g) k c)
-
-  pub lock_ready : (g m : ℕ) → CanMeet settings s (lock (mutex s m) (waiter s g)).0
-  lock_ready g m =
+  made_ready g (operation.Lock m) =
       let outcome = lock (mutex s m) (waiter s g) in
       meets_ready g s.channels (set s.mutexes m outcome.1) outcome.0 (λ k. lock_moves s.channels s.mutexes (waiter s g) k m)
-
-  pub unlock_ready : (g m : ℕ) → CanMeet settings s (unlock (mutex s m)).0
-  unlock_ready g m =
+  made_ready g (operation.Unlock m) =
       let outcome = unlock (mutex s m) in
       meets_ready g s.channels (set s.mutexes m outcome.1) outcome.0 (λ k. unlock_moves s.channels s.mutexes (waiter s g) k m)
+  made_ready g (operation.Spawn f) = tt
 
   -- the next number stands in no queue
   pub next_absent : times (births s) s.queue ≡ 0
   next_absent = holds_runnable (code_of program) settings s reached (births s) ∙ ap (λ (x : Goroutine). if is_runnable x.status then 1 else 0) (get_or_past s.goroutines (births s) nobody (omega arith))
 
--- What an Op does and answers, by its operation, where the point isn't granted.
-module _ (code : Code) (settings : Settings) (w g : ℕ) (s : State) (bare : (goroutine s g).granted ≡ false) where
-  acts_by : (i : Instruction) → next_instruction code s g ≡ i → acts code settings w g s ≡ operates code settings w g i s
-  acts_by i e = rw (bare, e) refl
+-- What is known of the state that an operation leaves, before its effect is met: all but the wait lists is as before,
+-- and whom the effect wakes can be woken.
+module _ (program : Parts) (settings : Settings) (s : State) (reached : IsReached (code_of program) settings s) (range : AreInRange settings)
+    (g : ℕ) (made : Operation) (contended : Bool) (effect : Effect) (left : State) (is : Meets contended effect left ≡ outcome_at (code_of program) g made s) where
+  left_is : left ≡ with_wait_lists left.channels left.mutexes s
+  left_is = let e = ap (left_of s) (sym is) in subst (λ (t : State). t ≡ with_wait_lists t.channels t.mutexes s) e (lists_alone (code_of program) g made s)
 
-  answers_by : (i : Instruction) → next_instruction code s g ≡ i → op_answer code settings g s ≡ operation_answer code settings g (is_over_after code 1 (goroutine s g)) i s
-  answers_by i e = rw (bare, e) refl
+  pub left_runs : (w : ℕ) → Runs settings s w g → Runs settings left w g
+  left_runs w runs = subst (λ t. Runs settings t w g) (sym left_is) (record { is_worker = runs.is_worker; is_born = runs.is_born; is_cell = runs.is_cell; status = runs.status })
 
-  pub acts_send : (c : ℕ) → operation_of (next_instruction code s g) ≡ Some (operation.Send c) → acts code settings w g s ≡ meets_channel code settings w g c (send (code.capacity c) (channel s c) (waiter s g)) s
+  pub left_counts : (w : ℕ) → CanCount s w g 1 → CanCount left w g 1
+  left_counts w can = subst (λ t. CanCount t w g 1) (sym left_is) (record { clock = can.clock; count = can.count; instructions = can.instructions; slice = can.slice })
+
+  wakes_there : (e : Effect) (cs : List Channel) (ms : List Mutex) → CanMeet settings s e → CanMeet settings (with_wait_lists cs ms s) e
+  wakes_there Done cs ms can = tt
+  wakes_there Blocks cs ms can = tt
+  wakes_there Fault cs ms can = tt
+  wakes_there (Wakes h since) cs ms can = record { is_born = can.is_born; is_cell = can.is_cell; blocked = can.blocked; absent = can.absent }
+
+  pub left_ready : CanMeet settings left effect
+  left_ready =
+      let can = subst (CanMeet settings s) (ap effect_of (sym is)) (made_ready program settings s reached range g made) in
+      subst (λ t. CanMeet settings t effect) (sym left_is) (wakes_there effect left.channels left.mutexes can)
+
+  pub left_lasts : is_last_point (code_of program) left g ≡ is_last_point (code_of program) s g
+  left_lasts = ap (λ t. is_last_point (code_of program) t g) left_is
+
+-- What an Op does and answers where the point isn't granted.
+module _ (code : Code) (settings : Settings) (w g : ℕ) (s : State) (bare : (goroutine s g).granted ≡ false) (made : Operation) (is : operation_of (next_instruction code s g) ≡ Some made) where
+  pub acts_by : (outcome : Outcome) → outcome ≡ outcome_at code g made s → comes_to code settings w g outcome s ≡ acts code settings w g s
   unfolding operates
-  acts_send c e = acts_by (Send c) (send_of (next_instruction code s g) c e)
+  acts_by outcome e = rw (bare, is, e) refl
 
-  pub answers_send : (c : ℕ) → operation_of (next_instruction code s g) ≡ Some (operation.Send c) → op_answer code settings g s ≡ answer_to false (is_over_after code 1 (goroutine s g)) (send (code.capacity c) (channel s c) (waiter s g)).0
+  pub answers_by : (outcome : Outcome) → outcome ≡ outcome_at code g made s → told settings (is_last_point code s g) outcome s ≡ op_answer code settings g s
   unfolding operation_answer
-  answers_send c e = answers_by (Send c) (send_of (next_instruction code s g) c e)
+  answers_by outcome e = rw (bare, is, e) refl
 
-  pub acts_recv : (c : ℕ) → operation_of (next_instruction code s g) ≡ Some (operation.Recv c) → acts code settings w g s ≡ meets_channel code settings w g c (recv (channel s c) (waiter s g)) s
-  unfolding operates
-  acts_recv c e = acts_by (Recv c) (recv_of (next_instruction code s g) c e)
-
-  pub answers_recv : (c : ℕ) → operation_of (next_instruction code s g) ≡ Some (operation.Recv c) → op_answer code settings g s ≡ answer_to false (is_over_after code 1 (goroutine s g)) (recv (channel s c) (waiter s g)).0
-  unfolding operation_answer
-  answers_recv c e = answers_by (Recv c) (recv_of (next_instruction code s g) c e)
-
-  pub acts_lock : (m : ℕ) → operation_of (next_instruction code s g) ≡ Some (operation.Lock m) → acts code settings w g s ≡ meets_mutex code settings w g m (lock (mutex s m) (waiter s g)) s
-  unfolding operates
-  acts_lock m e = acts_by (Lock m) (lock_of (next_instruction code s g) m e)
-
-  pub answers_lock : (m : ℕ) → operation_of (next_instruction code s g) ≡ Some (operation.Lock m) → op_answer code settings g s ≡ answer_to false (is_over_after code 1 (goroutine s g)) (lock (mutex s m) (waiter s g)).0
-  unfolding operation_answer
-  answers_lock m e = answers_by (Lock m) (lock_of (next_instruction code s g) m e)
-
-  pub acts_unlock : (m : ℕ) → operation_of (next_instruction code s g) ≡ Some (operation.Unlock m) → acts code settings w g s ≡ meets_mutex code settings w g m (unlock (mutex s m)) s
-  unfolding operates
-  acts_unlock m e = acts_by (Unlock m) (unlock_of (next_instruction code s g) m e)
-
-  pub answers_unlock : (m : ℕ) → operation_of (next_instruction code s g) ≡ Some (operation.Unlock m) → op_answer code settings g s ≡ answer_to true (is_over_after code 1 (goroutine s g)) (unlock (mutex s m)).0
-  unfolding operation_answer
-  answers_unlock m e = answers_by (Unlock m) (unlock_of (next_instruction code s g) m e)
-
-  pub acts_spawn : (f : ℕ) → operation_of (next_instruction code s g) ≡ Some (operation.Spawn f) → acts code settings w g s ≡ spawns code settings w g f s
-  unfolding operates
-  acts_spawn f e = acts_by (Spawn f) (spawn_of (next_instruction code s g) f e)
-
-  pub answers_spawn : (f : ℕ) → operation_of (next_instruction code s g) ≡ Some (operation.Spawn f) → op_answer code settings g s ≡ (if nat_lt (births s) settings.cells then Born (births s) (is_over_after code 1 (goroutine s g)) else FaultAnswer 2)
-  unfolding operation_answer
-  answers_spawn f e = answers_by (Spawn f) (spawn_of (next_instruction code s g) f e)
+-- an operation that bears a goroutine comes to that
+pub spawns_at : (code : Code) (g function : ℕ) (made : Operation) (s : State) → spawned made ≡ Some function → Spawns function ≡ outcome_at code g made s
+spawns_at code g function (operation.Spawn f) s e = cc
+spawns_at code g function (operation.Send c) s e = absurd (cc)
+spawns_at code g function (operation.Recv c) s e = absurd (cc)
+spawns_at code g function (operation.Lock m) s e = absurd (cc)
+spawns_at code g function (operation.Unlock m) s e = absurd (cc)

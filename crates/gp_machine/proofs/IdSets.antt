@@ -7,7 +7,7 @@ use Rattle.std.proofs.lemmas.List.{length-replicate, get_or-replicate, get_or_pa
 use Rattle.std.proofs.lemmas.List.FromFn.{length-map-range_with_len, get_or-map-range_with_len}
 use Rattle.std.proofs.lemmas.List.Sums.{position_or_len_is}
 use Rattle.std.proofs.lemmas.Nat.Bits.{bit_at-zero, bit_at-trailing_zeros, bit_at_set_same, bit_at_set_other, bit_at_clear_same, bit_at_clear_other}
-use Rattle.gp_machine.specs.IdSet.{first_place, has_bit, ids_of, IsKept}
+use Rattle.gp_machine.specs.kept.IdSet.{first_place, has_bit, ids_of, IsKept}
 
 -- a word once a bit is set, and once it is cleared
 abbrev with_bit : ℕ → ℕ → ℕ

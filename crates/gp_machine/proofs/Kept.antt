@@ -10,8 +10,9 @@ use Rattle.gp_journal.specs.May.{May}
 use Rattle.gp_journal.specs.Effect.{after}
 use Rattle.gp_journal.specs.Run.{AreLegal, IsLegal, after_all, last}
 use Rattle.gp_journal.specs.NumberLaws.{most_entries}
-use Rattle.gp_machine.specs.Made.{actor_of, made_by, Keeps}
-use Rattle.gp_machine.specs.Present.{IsReached}
+use Rattle.gp_journal.specs.Actors.{actor_of, made_by}
+use Rattle.gp_machine.specs.kept.Made.{Keeps}
+use Rattle.gp_journal.specs.Reached.{IsReached}
 use Rattle.gp_journal.proofs.Lemmas.{replaced_within, one_if, one_if_eq, after_all-append, kept_at, entries_are_counted, entries_are_bounded, worker_at, idle_within}
 
 -- one legal entry more

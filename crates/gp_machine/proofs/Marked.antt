@@ -6,7 +6,7 @@ use Rattle.std.proofs.lemmas.List.{get_or_past, get_or_push, get_or_append_left,
 use Rattle.std.proofs.lemmas.List.Sums.{sum_by-set, sum_by_push, position_or_len_is, fails_before_first, passes_at_first}
 use Rattle.gp_journal.specs.declared.goroutine.Goroutine.{Goroutine}
 use Rattle.gp_journal.specs.State.{nobody}
-use Rattle.gp_machine.specs.Crowd.{one_if}
+use Rattle.gp_machine.specs.kept.Crowd.{one_if}
 use Rattle.gp_journal.proofs.Lemmas.{replaced_within}
 
 pub count_set : {X : Type 0} (p : X → Bool) (d : X) (xs : List X) (i : ℕ) (y : X) → i < length xs → count_by p (set xs i y) + one_if (p (get_or xs i d)) ≡ count_by p xs + one_if (p y)

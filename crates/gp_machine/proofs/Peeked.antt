@@ -16,7 +16,7 @@ use Rattle.gp_journal.specs.declared.settings.Settings.{Settings}
 use Rattle.gp_journal.specs.Settings.{quantum, period}
 use Rattle.gp_journal.specs.State.{Code, State, goroutine, worker, trace_of}
 use Rattle.gp_journal.specs.Due.{asked, over, due, extent, next_instruction}
-use Rattle.gp_machine.specs.Present.{IsPeekAt}
+use Rattle.gp_journal.specs.Shown.{IsPeekAt}
 use Rattle.gp_journal.proofs.Lemmas.{GoesOn}
 
 -- so many local points are ahead, up to the quantum, and then this comes

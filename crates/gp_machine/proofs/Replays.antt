@@ -17,7 +17,7 @@ use Rattle.gp_journal.specs.Due.{next_instruction}
 use Rattle.gp_journal.specs.May.{May}
 use Rattle.gp_journal.specs.Effect.{labels_at, after}
 use Rattle.gp_journal.specs.Run.{AreLegal, after_all}
-use Rattle.gp_machine.specs.Present.{IsGiven}
+use Rattle.gp_journal.specs.Shown.{IsGiven}
 use Rattle.gp_machine.specs.Replayed.{AreGiven, ArePointsOf}
 use Rattle.gp_journal.specs.Worked.{plain}
 use Rattle.gp_journal.proofs.Journals.{with_traces, code_is}

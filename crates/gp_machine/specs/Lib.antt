@@ -21,9 +21,9 @@ pub use Rattle.gp_journal.specs.NumberLaws
 pub use Rattle.gp_journal.specs.StepLaws
 pub use Rattle.gp_journal.specs.Worked
 pub use Rattle.gp_journal.specs.Named
-pub mod IdSet
 pub mod Queue
-pub mod Crowd
-pub mod Present
-pub mod Made
+pub mod OnWorker
 pub mod Replayed
+pub mod kept
+pub use Rattle.gp_machine.specs.kept.Crowd
+pub use Rattle.gp_machine.specs.kept.Made

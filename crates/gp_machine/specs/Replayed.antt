@@ -6,7 +6,7 @@ use Rattle.gp_journal.specs.declared.entry.Entry.{Entry}
 use Rattle.gp_journal.specs.declared.settings.Settings.{Settings}
 use Rattle.gp_journal.specs.State.{Code, State, code_of, first}
 use Rattle.gp_journal.specs.Effect.{after}
-use Rattle.gp_machine.specs.Present.{IsGiven}
+use Rattle.gp_journal.specs.Shown.{IsGiven}
 
 -- Beside entries that are made one after another, from a state on, stands what is handed over with each.
 abbrev pub AreGiven : Code → Settings → State → List Entry → List (Option SharedPoint) → Type 0

@@ -1,12 +1,14 @@
 ghost use Rattle.std.specs.Prelude.{◌≡◌, ◌≤◌, ℕ, [], ◌∷◌, length, get_or, IfOk};
 ghost use Rattle.gp_isa.specs.Trace.{trace};
+ghost use Rattle.gp_isa.specs.Limits.{most_cells};
 ghost use Rattle.gp_journal.specs.Settings.{AreInRange};
 ghost use Rattle.gp_journal.specs.State.{code_of, first, main_goroutine};
-ghost use Rattle.gp_machine.specs.Present.{FitsPlan};
+ghost use Rattle.gp_machine.specs.kept.Present.{FitsPlan};
 
 use crate::goroutines::Goroutines;
 use crate::present::{Plan, Present, RESTING};
 use crate::queue::Queue;
+use gp_isa::limits::INSTRUCTIONS_PER_SECOND;
 use gp_isa::{Memory, Program};
 use gp_journal::{Goroutine, Run, Settings, Status};
 use gp_sync::WaitLists;
@@ -32,7 +34,7 @@ fn plan_of(alloc: Global, program: &Program, settings: &Settings) -> Result<Plan
 {
     Ok(Plan {
         lengths: lengths_of(alloc, program)?,
-        period: (1_000_000 / settings.hz) as u64,
+        period: (INSTRUCTIONS_PER_SECOND / settings.hz) as u64,
         entries: settings.entries,
         at: Vec::from_slice(alloc, settings.at.as_slice())?,
     })
@@ -57,7 +59,7 @@ fn main_goroutine(program: &Program) -> Goroutine
 // The queue as a run begins: `main` stands in it.
 fn first_queue(alloc: Global, cells: u32) -> Result<Queue, Memory>
     requires some { 1 ≤ cells }
-    requires few { cells ≤ 16384 }
+    requires few { cells ≤ most_cells }
     ensures { IfOk result (λ queue. queue ≡ record { cells = cells; items = 0 ∷ [] }) }
 {
     let mut queue = Queue::new(alloc, cells)?;

@@ -4,7 +4,8 @@ ghost use Rattle.gp_journal.specs.State.{code_of, goroutine};
 ghost use Rattle.gp_journal.specs.Effect.{effect, after, is_over_after};
 ghost use Rattle.gp_journal.specs.May.{May, MayStart, IsDue, MayOpen, MayRefuse, MayRecord, MayClose};
 ghost use Rattle.gp_journal.specs.Answer.{applied};
-ghost use Rattle.gp_machine.specs.Present.{IsReached, IsGiven};
+ghost use Rattle.gp_journal.specs.Reached.{IsReached};
+ghost use Rattle.gp_journal.specs.Shown.{IsGiven};
 ghost use Rattle.gp_journal.specs.declared.entry.Entry.TheVariants as entry;
 
 use crate::present::Present;

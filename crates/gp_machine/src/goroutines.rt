@@ -1,6 +1,8 @@
 ghost use Rattle.std.specs.Prelude.{◌≡◌, ◌<◌, ◌≤◌, ◌++◌, ◌∷◌, ◌+◌, ◌^◌, [], ℕ, true, IsTrue, length, get_or, set, count_by, IfOk, nat_lt};
+ghost use Rattle.gp_isa.specs.Limits.{most_cells};
 ghost use Rattle.gp_journal.specs.State.{nobody, is_runnable, is_running, is_live, is_behind};
-ghost use Rattle.gp_machine.specs.Crowd.{first_behind, is_settled, one_if};
+ghost use Rattle.gp_journal.specs.Standing.{first_behind};
+ghost use Rattle.gp_machine.specs.kept.Crowd.{is_settled, one_if};
 
 use crate::id_set::IdSet;
 use gp_isa::Memory;
@@ -30,13 +32,14 @@ pub struct Goroutines {
 impl Model for Goroutines {
     ghost use Rattle.std.specs.Prelude.{length};
     ghost use Rattle.std.specs.Vec.{vec_capacity};
-    ghost use Rattle.gp_machine.specs.Crowd.{Crowd, AreCounted};
+    ghost use Rattle.gp_machine.specs.kept.Crowd.{Crowd, AreCounted};
 
     ghost Value = { Crowd };
 
     ghost view = { λ t. record { cells = t.cells; all = t.all.items; active = t.active } };
 
-    ghost invariant = { λ t. AreCounted t.cells (vec_capacity t.all) t.all.items t.active t.live t.running t.runnable t.recorded t.unrecorded };
+    ghost invariant = { λ t. AreCounted t.cells (vec_capacity t.all) t.all.items t.active
+        t.live t.running t.runnable t.recorded t.unrecorded };
 }
 
 const NOBODY: Goroutine = Goroutine {
@@ -104,7 +107,7 @@ impl Goroutines {
     /// With `first` born, and room for so many. Nothing that is done with them takes memory after.
     pub fn new(alloc: Global, cells: u32, first: Goroutine) -> Result<Goroutines, Memory>
         requires some { 1 ≤ cells }
-        requires few { cells ≤ 16384 }
+        requires few { cells ≤ most_cells }
         ensures { IfOk result (λ goroutines. goroutines ≡ record { cells = cells; all = first ∷ []; active = 0 }) }
     {
         let mut goroutines = Goroutines {

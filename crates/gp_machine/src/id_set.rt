@@ -1,5 +1,6 @@
 ghost use Rattle.std.specs.Prelude.{◌≡◌, ◌<◌, ◌≤◌, false, true, length, replicate, set, IfOk};
-ghost use Rattle.gp_machine.specs.IdSet.{first_place};
+ghost use Rattle.gp_isa.specs.Limits.{most_cells};
+ghost use Rattle.gp_machine.specs.kept.IdSet.{first_place};
 
 use gp_isa::Memory;
 use std::alloc::Global;
@@ -23,7 +24,7 @@ pub struct IdSet {
 
 impl Model for IdSet {
     ghost use Rattle.std.specs.Prelude.{Bool, List};
-    ghost use Rattle.gp_machine.specs.IdSet.{ids_of, IsKept};
+    ghost use Rattle.gp_machine.specs.kept.IdSet.{ids_of, IsKept};
 
     ghost Value = { List Bool };
 
@@ -35,7 +36,7 @@ impl Model for IdSet {
 impl IdSet {
     /// The empty set of numbers below a room. Nothing that is done with it takes memory after.
     pub fn new(alloc: Global, room: u32) -> Result<IdSet, Memory>
-        requires { room ≤ 16384 }
+        requires { room ≤ most_cells }
         ensures { IfOk result (λ ids. ids ≡ replicate room false) }
     {
         let words = vec![in alloc; 0; room.div_ceil(BITS) as usize]?;

@@ -1,19 +1,18 @@
-ghost use Rattle.std.specs.Prelude.{◌≡◌, ◌≤◌, ◌<◌, ◌-◌, ◌%◌, ◌^◌, min, Some, length};
+ghost use Rattle.std.specs.Prelude.{◌≡◌, ◌≤◌, ◌<◌, ◌-◌, ◌^◌, min, Some, length};
 ghost use Rattle.std.specs.Bool.{OnTrue, OnFalse};
-ghost use Rattle.gp_journal.specs.Settings.{quantum, period};
+ghost use Rattle.gp_journal.specs.Settings.{quantum};
 ghost use Rattle.gp_journal.specs.State.{code_of, worker, mutex};
-ghost use Rattle.gp_journal.specs.Due.{asked, over, ended, due, IsComplete, calls_for, some_ready, next_instruction};
+ghost use Rattle.gp_journal.specs.Due.{asked, over, to_tick, ended, due, IsComplete, calls_for, some_ready, next_instruction};
 ghost use Rattle.gp_stack.specs.Peek.{operation_of};
 ghost use Rattle.gp_journal.specs.Answer.{foreseen, contention};
-ghost use Rattle.gp_machine.specs.Present.{IsReached, IsPeekAt};
+ghost use Rattle.gp_journal.specs.Reached.{IsReached};
+ghost use Rattle.gp_journal.specs.Shown.{IsPeekAt};
 
-use crate::operations::{INSTRUCTION_TIME, block_delay};
+use crate::operations::block_delay;
 use crate::present::Present;
+use gp_isa::limits::{INSTRUCTION_TIME, QUANTUM};
 use gp_journal::{Ended, Entry, Foreseen, Request, Run, Status};
 use gp_stack::{Operation, Peek, Then};
-
-/// The quantum: how many instructions a goroutine may run before it is put back.
-pub const QUANTUM: u64 = 1000;
 
 impl<R: Run> Present<R> {
     // Whether a goroutine is runnable or running.
@@ -83,7 +82,7 @@ impl<R: Run> Present<R> {
     // How many of so many local points, the quantum at most, a Run on w passes.
     fn extent(&self, w: u32, local: u64) -> u64
         requires { (worker self.now w).slice ≤ quantum }
-        ensures { result ≡ min local (min (period R.settings - (worker self.now w).instructions % period R.settings) (quantum - (worker self.now w).slice)) }
+        ensures { let v = worker self.now w in result ≡ min local (min (to_tick R.settings v) (quantum - v.slice)) }
     {
         let worker = self.worker(w);
         let between = self.plan.period;

@@ -1,21 +1,20 @@
-ghost use Rattle.std.specs.Prelude.{◌≡◌, ◌<◌, ◌≤◌, ◌++◌, ◌∷◌, [], ℕ, true, Some, IfOk, IsSome};
+ghost use Rattle.std.specs.Prelude.{◌≡◌, ◌<◌, ◌≤◌, ◌++◌, ◌∷◌, [], true, IfOk, IsSome};
 ghost use Rattle.std.specs.Bool.{OnTrue, OnFalse};
-ghost use Rattle.gp_stack.specs.Peek.{operation_of};
 ghost use Rattle.gp_journal.specs.Settings.{AreInRange};
 ghost use Rattle.gp_journal.specs.State.{code_of, goroutine, worker, is_live, live, running, births};
 ghost use Rattle.gp_journal.specs.Due as definition;
-ghost use Rattle.gp_journal.specs.Due.{IsComplete, next_instruction};
-ghost use Rattle.gp_journal.specs.May.{May, IsDue};
-ghost use Rattle.gp_journal.specs.Run.{IsLegal, last};
-ghost use Rattle.gp_journal.specs.Answer.{applied, foreseen};
-ghost use Rattle.gp_machine.specs.Crowd.{first_behind};
-ghost use Rattle.gp_machine.specs.Queue.{head_of};
-ghost use Rattle.gp_machine.specs.Present.{IsGiven, IsPeekAt};
-ghost use Rattle.gp_journal.specs.declared.entry.Entry.TheVariants as entry;
-ghost use Rattle.gp_machine.specs.Made.{actor_of, made_by};
+ghost use Rattle.gp_journal.specs.Due.{IsComplete};
+ghost use Rattle.gp_journal.specs.May.{May};
+ghost use Rattle.gp_journal.specs.Run.{IsLegal, state_of};
+ghost use Rattle.gp_journal.specs.Answer.{applied};
+ghost use Rattle.gp_journal.specs.Standing.{head_of, first_behind};
+ghost use Rattle.gp_machine.specs.OnWorker.{IsPeekOn, IsDueOn, OpIsDueOn, IsNextOn, IsForeseenOn};
+ghost use Rattle.gp_journal.specs.Shown.{IsGiven};
+ghost use Rattle.gp_journal.specs.Actors.{actor_of, made_by};
 ghost use Rattle.gp_journal.specs.NumberLaws.{most_entries};
 
 use crate::present::Present;
+use gp_isa::limits::REQUESTS;
 use gp_isa::{Memory, Program, Sequence};
 use gp_journal::{Applied, Ended, Entry, Foreseen, Journal, Run, Settings, SharedPoint};
 use gp_stack::{Operation, Peek};
@@ -40,7 +39,7 @@ impl<R: Run> Model for Machine<R> {
     ghost use Rattle.std.specs.Vec.{vec_capacity};
     ghost use Rattle.gp_journal.specs.declared.entry.Entry.{Entry};
     ghost use Rattle.gp_journal.specs.State.{code_of};
-    ghost use Rattle.gp_machine.specs.Made.{Keeps};
+    ghost use Rattle.gp_machine.specs.kept.Made.{Keeps};
 
     ghost Value = { List Entry };
 
@@ -57,7 +56,7 @@ fn most_entries(settings: &Settings) -> usize
 {
     let full = settings.entries as usize;
     let cells = settings.cells as usize;
-    full + 8 * (cells + 2) + 2 * settings.workers as usize + 2
+    full + REQUESTS * (cells + 2) + 2 * settings.workers as usize + 2
 }
 
 // The number of the actor that makes an entry, the profiler's being the number of workers.
@@ -96,10 +95,10 @@ impl<R: Run> Machine<R> {
     /// Makes an entry, which has to be legal. With an `Op` comes its goroutine's next point. The answer tells what the
     /// entry did.
     pub fn apply(&mut self, made: Entry, point: Option<SharedPoint>) -> Applied
-        requires legal { May (code_of R.program) R.settings (last (code_of R.program) R.settings self.old) made }
-        requires point { IsGiven (code_of R.program) (last (code_of R.program) R.settings self.old) made point }
+        requires legal { May (code_of R.program) R.settings (state_of R.program R.settings self.old) made }
+        requires point { IsGiven (code_of R.program) (state_of R.program R.settings self.old) made point }
         ensures journal { self.new ≡ self.old ++ made ∷ [] }
-        ensures answer { result ≡ applied (code_of R.program) R.settings (last (code_of R.program) R.settings self.old) made }
+        ensures answer { result ≡ applied (code_of R.program) R.settings (state_of R.program R.settings self.old) made }
     {
         let profiler = self.made.len() as u32 - 1;
         let answer = self.present.apply(made, point);
@@ -114,9 +113,9 @@ impl<R: Run> Machine<R> {
     /// The entry that is due on worker `w`, which runs a goroutine. `peek` is the look ahead of its body, up to 1,000
     /// points.
     pub fn due(&self, w: u32, peek: Peek) -> Entry
-        requires runs { IsSome (worker (last (code_of R.program) R.settings self.now) w).runs }
-        requires peek { (g : ℕ) → (worker (last (code_of R.program) R.settings self.now) w).runs ≡ Some g → IsPeekAt (code_of R.program) (last (code_of R.program) R.settings self.now) g peek }
-        ensures { (g : ℕ) → (worker (last (code_of R.program) R.settings self.now) w).runs ≡ Some g → result ≡ definition.due (code_of R.program) R.settings (last (code_of R.program) R.settings self.now) w g }
+        requires runs { IsSome (worker (state_of R.program R.settings self.now) w).runs }
+        requires peek { IsPeekOn R.program R.settings self.now w peek }
+        ensures { IsDueOn R.program R.settings self.now w result }
     {
         match self.present.worker(w).runs {
             Some(g) => self.present.due(w, g, peek),
@@ -127,10 +126,10 @@ impl<R: Run> Machine<R> {
     /// What the Op that is due on worker `w` will tell, before it is made. `operation` is what its goroutine's next
     /// point does.
     pub fn foresee(&self, w: u32, operation: Operation) -> Foreseen
-        requires runs { IsSome (worker (last (code_of R.program) R.settings self.now) w).runs }
-        requires due { (g : ℕ) → (worker (last (code_of R.program) R.settings self.now) w).runs ≡ Some g → IsDue (code_of R.program) R.settings (last (code_of R.program) R.settings self.now) w g (entry.Op w g) }
-        requires operation { (g : ℕ) → (worker (last (code_of R.program) R.settings self.now) w).runs ≡ Some g → operation_of (next_instruction (code_of R.program) (last (code_of R.program) R.settings self.now) g) ≡ Some operation }
-        ensures { (g : ℕ) → (worker (last (code_of R.program) R.settings self.now) w).runs ≡ Some g → result ≡ foreseen (code_of R.program) (last (code_of R.program) R.settings self.now) g }
+        requires runs { IsSome (worker (state_of R.program R.settings self.now) w).runs }
+        requires due { OpIsDueOn R.program R.settings self.now w }
+        requires operation { IsNextOn R.program R.settings self.now w operation }
+        ensures { IsForeseenOn R.program R.settings self.now w result }
     {
         match self.present.worker(w).runs {
             Some(g) => self.present.foresees(g, operation),
@@ -140,51 +139,51 @@ impl<R: Run> Machine<R> {
 
     /// The runnable goroutine that has waited longest, if there is one.
     pub fn head(&self) -> Option<u32>
-        ensures { result ≡ head_of (last (code_of R.program) R.settings self.now).queue }
+        ensures { result ≡ head_of (state_of R.program R.settings self.now).queue }
     {
         self.present.head()
     }
 
     /// Whether a profile is asked for.
     pub fn asked(&self) -> bool
-        ensures { result ≡ definition.asked R.settings (last (code_of R.program) R.settings self.now) }
+        ensures { result ≡ definition.asked R.settings (state_of R.program R.settings self.now) }
     {
         self.present.asked()
     }
 
     /// Whether the run is over.
     pub fn over(&self) -> bool
-        ensures { result ≡ definition.over R.settings (last (code_of R.program) R.settings self.now) }
+        ensures { result ≡ definition.over R.settings (state_of R.program R.settings self.now) }
     {
         self.present.over()
     }
 
     /// Whether the run is complete.
     pub fn complete(&self) -> bool
-        ensures complete { OnTrue result (IsComplete R.settings (last (code_of R.program) R.settings self.now)) }
-        ensures more { OnFalse result (IsComplete R.settings (last (code_of R.program) R.settings self.now) → ⊥) }
+        ensures complete { OnTrue result (IsComplete R.settings (state_of R.program R.settings self.now)) }
+        ensures more { OnFalse result (IsComplete R.settings (state_of R.program R.settings self.now) → ⊥) }
     {
         self.present.complete()
     }
 
     /// How many goroutines run.
     pub fn running(&self) -> u32
-        ensures { result ≡ running (last (code_of R.program) R.settings self.now) }
+        ensures { result ≡ running (state_of R.program R.settings self.now) }
     {
         self.present.running()
     }
 
     /// How many goroutines are live.
     pub fn live(&self) -> u32
-        ensures { result ≡ live (last (code_of R.program) R.settings self.now) }
+        ensures { result ≡ live (state_of R.program R.settings self.now) }
     {
         self.present.live()
     }
 
     /// How the run ended, which is complete.
     pub fn ended(&self) -> Ended
-        requires { IsComplete R.settings (last (code_of R.program) R.settings self.now) }
-        ensures { result ≡ definition.ended (last (code_of R.program) R.settings self.now) }
+        requires { IsComplete R.settings (state_of R.program R.settings self.now) }
+        ensures { result ≡ definition.ended (state_of R.program R.settings self.now) }
     {
         self.present.ended()
     }
@@ -208,36 +207,36 @@ impl<R: Run> Machine<R> {
 
     /// The clock, in instructions.
     pub fn clock(&self) -> u64
-        ensures { result ≡ (last (code_of R.program) R.settings self.now).clock }
+        ensures { result ≡ (state_of R.program R.settings self.now).clock }
     {
         self.present.clock()
     }
 
     /// How many goroutines were born.
     pub fn births(&self) -> u32
-        ensures { result ≡ births (last (code_of R.program) R.settings self.now) }
+        ensures { result ≡ births (state_of R.program R.settings self.now) }
     {
         self.present.births()
     }
 
     /// The epoch of the active profile, or 0.
     pub fn active(&self) -> u32
-        ensures { result ≡ (last (code_of R.program) R.settings self.now).active }
+        ensures { result ≡ (state_of R.program R.settings self.now).active }
     {
         self.present.active()
     }
 
     /// The last epoch given.
     pub fn last_epoch(&self) -> u32
-        ensures { result ≡ (last (code_of R.program) R.settings self.now).last_epoch }
+        ensures { result ≡ (state_of R.program R.settings self.now).last_epoch }
     {
         self.present.last_epoch()
     }
 
     /// The epoch of a live goroutine: the last profile in which it was recorded or born.
     pub fn epoch(&self, g: u32) -> u32
-        requires { is_live (goroutine (last (code_of R.program) R.settings self.now) g) ≡ true }
-        ensures { result ≡ (goroutine (last (code_of R.program) R.settings self.now) g).epoch }
+        requires { is_live (goroutine (state_of R.program R.settings self.now) g) ≡ true }
+        ensures { result ≡ (goroutine (state_of R.program R.settings self.now) g).epoch }
     {
         self.present.goroutine(g).epoch
     }
@@ -245,14 +244,14 @@ impl<R: Run> Machine<R> {
     /// The goroutine that worker `w` runs, if any.
     pub fn runs(&self, w: u32) -> Option<u32>
         requires { w < R.settings.workers }
-        ensures { result ≡ (worker (last (code_of R.program) R.settings self.now) w).runs }
+        ensures { result ≡ (worker (state_of R.program R.settings self.now) w).runs }
     {
         self.present.worker(w).runs
     }
 
     /// The first goroutine that has still to be recorded in the active profile.
     pub fn unrecorded(&self) -> Option<u32>
-        ensures { result ≡ first_behind (last (code_of R.program) R.settings self.now).active (last (code_of R.program) R.settings self.now).goroutines }
+        ensures { let now = state_of R.program R.settings self.now in result ≡ first_behind now.active now.goroutines }
     {
         self.present.unrecorded()
     }
@@ -260,7 +259,7 @@ impl<R: Run> Machine<R> {
     /// How many instructions worker `w` has run.
     pub fn done(&self, w: u32) -> u64
         requires { w < R.settings.workers }
-        ensures { result ≡ (worker (last (code_of R.program) R.settings self.now) w).instructions }
+        ensures { result ≡ (worker (state_of R.program R.settings self.now) w).instructions }
     {
         self.present.worker(w).instructions
     }

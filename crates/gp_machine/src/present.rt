@@ -5,9 +5,10 @@ ghost use Rattle.gp_journal.specs.Settings.{AreInRange, period};
 ghost use Rattle.gp_journal.specs.State.{code_of, State, goroutine, worker, births, live, running, is_live, is_behind};
 ghost use Rattle.gp_journal.specs.Effect as effect;
 ghost use Rattle.gp_journal.specs.Effect.{is_over_after, with_goroutine, with_worker};
-ghost use Rattle.gp_machine.specs.Crowd.{first_behind};
+ghost use Rattle.gp_journal.specs.Standing.{first_behind};
 ghost use Rattle.gp_journal.specs.Standing.{head_of, times};
-ghost use Rattle.gp_machine.specs.Present.{Runs, CanCount, CanWake};
+ghost use Rattle.gp_journal.specs.Reached.{Runs};
+ghost use Rattle.gp_machine.specs.kept.Present.{CanCount, CanWake};
 ghost use Rattle.gp_journal.specs.declared.goroutine.Status.TheVariants.{Runnable, Running, Dead as DeadStatus};
 
 use crate::goroutines::Goroutines;
@@ -45,7 +46,7 @@ pub struct Present<R: Run> {
 impl<R: Run> Model for Present<R> {
     ghost use Rattle.std.specs.Prelude.{drop};
     ghost use Rattle.gp_journal.specs.State.{State};
-    ghost use Rattle.gp_machine.specs.Present.{FitsRun, HasCells};
+    ghost use Rattle.gp_machine.specs.kept.Present.{FitsRun, HasCells};
 
     ghost Value = { State };
 
@@ -377,7 +378,7 @@ impl<R: Run> Present<R> {
         requires room { births self.old < R.settings.cells }
         requires absent { times (births self.old) self.old.queue ≡ 0 }
         ensures born { result ≡ births self.old }
-        ensures state { self.new ≡ record (effect.queued (births self.old) self.old) { goroutines = self.old.goroutines ++ effect.newborn function labels self.old.last_epoch ∷ [] } }
+        ensures state { self.new ≡ effect.born (effect.newborn function labels self.old.last_epoch) self.old }
     {
         let g = self.goroutines.births();
         let epoch = self.last_epoch;

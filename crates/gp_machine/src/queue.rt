@@ -1,5 +1,6 @@
 ghost use Rattle.std.specs.Prelude.{◌≡◌, ◌<◌, ◌≤◌, ◌==◌, not, [], ◌∷◌, ◌++◌, length, filter, count_by, slice_set, IfOk};
-ghost use Rattle.gp_machine.specs.Queue.{head_of};
+ghost use Rattle.gp_isa.specs.Limits.{most_cells};
+ghost use Rattle.gp_journal.specs.Standing.{head_of};
 
 use gp_isa::Memory;
 use std::alloc::Global;
@@ -22,7 +23,8 @@ pub struct Queue {
 }
 
 impl Model for Queue {
-    ghost use Rattle.gp_machine.specs.Queue.{Line, items_of, IsRing};
+    ghost use Rattle.gp_machine.specs.Queue.{Line};
+    ghost use Rattle.gp_machine.specs.kept.Ring.{items_of, IsRing};
 
     ghost Value = { Line };
 
@@ -45,7 +47,7 @@ fn join(next: &mut [u32], prev: &mut [u32], before: u32, behind: u32)
 impl Queue {
     /// An empty queue for goroutines whose numbers are below `cells`.
     pub fn new(alloc: Global, cells: u32) -> Result<Queue, Memory>
-        requires { cells ≤ 16384 }
+        requires { cells ≤ most_cells }
         ensures { IfOk result (λ queue. queue ≡ record { cells = cells; items = [] }) }
     {
         let places = cells as usize + 1;

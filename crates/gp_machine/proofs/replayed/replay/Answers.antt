@@ -3,7 +3,7 @@ use Rattle.gp_journal.specs.declared.entry.Entry.TheVariants.{Start}
 use Rattle.gp_journal.specs.State.{code_of, first}
 use Rattle.gp_journal.specs.May.{May}
 use Rattle.gp_journal.specs.Run.{last}
-use Rattle.gp_machine.specs.Present.{IsGiven}
+use Rattle.gp_journal.specs.Shown.{IsGiven}
 use Rattle.gp_machine.proofs.Replays.{may_at, given_at, given_all}
 use Rattle.gp_machine.proofs.replayed.replay.Goals as goal
 

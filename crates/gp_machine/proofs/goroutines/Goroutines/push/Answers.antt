@@ -3,7 +3,7 @@ use Rattle.std.specs.Vec.{vec_capacity}
 use Rattle.std.proofs.lemmas.List.{length_push}
 use Rattle.gp_journal.specs.declared.goroutine.Goroutine.{Goroutine}
 use Rattle.gp_journal.specs.State.{is_runnable, is_running, is_live, is_behind}
-use Rattle.gp_machine.specs.Crowd.{Crowd, AreCounted, is_settled}
+use Rattle.gp_machine.specs.kept.Crowd.{Crowd, AreCounted, is_settled}
 use Rattle.gp_machine.proofs.Marked.{number_push, AreMarked, marked_push}
 use Rattle.gp_machine.proofs.goroutines.Goroutines.push.Goals as goal
 

@@ -1,6 +1,6 @@
 use Rattle.std.proofs.Common.{◌≡◌, ◌<◌, ◌∙◌, length, get_or, sym, ap, arith, length-set}
 use Rattle.gp_journal.specs.State.{nobody, is_runnable, is_running, is_live, is_behind}
-use Rattle.gp_machine.specs.Crowd.{Crowd, is_settled}
+use Rattle.gp_machine.specs.kept.Crowd.{Crowd, is_settled}
 use Rattle.gp_machine.proofs.Marked.{number_set, AreMarked, marked_set}
 use Rattle.gp_machine.proofs.goroutines.Goroutines.set.Goals as goal
 

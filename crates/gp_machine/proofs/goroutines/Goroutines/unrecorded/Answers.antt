@@ -1,6 +1,7 @@
 use Rattle.std.proofs.Common.{◌∙◌, refl, ap}
 use Rattle.gp_journal.specs.State.{nobody, is_behind}
-use Rattle.gp_machine.specs.Crowd.{Crowd, first_behind}
+use Rattle.gp_machine.specs.kept.Crowd.{Crowd}
+use Rattle.gp_journal.specs.Standing.{first_behind}
 use Rattle.gp_machine.proofs.Marked.{same_position}
 use Rattle.gp_machine.proofs.goroutines.Goroutines.unrecorded.Goals as goal
 

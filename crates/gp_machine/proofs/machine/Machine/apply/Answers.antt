@@ -3,7 +3,7 @@ use Rattle.std.proofs.lemmas.List.{get_or_read_under}
 use Rattle.gp_journal.specs.State.{code_of}
 use Rattle.gp_journal.specs.May.{May}
 use Rattle.gp_journal.specs.Run.{last}
-use Rattle.gp_machine.specs.Made.{actor_of}
+use Rattle.gp_journal.specs.Actors.{actor_of}
 use Rattle.gp_machine.proofs.Kept.{room_left, entries_fit, actor_there, count_fits, keeps_next}
 use Rattle.gp_machine.proofs.machine.Machine.apply.Goals as goal
 

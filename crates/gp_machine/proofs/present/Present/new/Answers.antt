@@ -1,6 +1,6 @@
 use Rattle.std.proofs.Common.{ap}
 use Rattle.gp_sync.specs.WaitState.{WaitState}
-use Rattle.gp_machine.specs.Crowd.{Crowd}
+use Rattle.gp_machine.specs.kept.Crowd.{Crowd}
 use Rattle.gp_machine.specs.Queue.{Line}
 use Rattle.gp_machine.proofs.present.Present.new.Goals as goal
 

@@ -1,6 +1,7 @@
 use Rattle.std.proofs.Common.{ℕ, Some, arith, ap, ◌∙◌, sym}
 use Rattle.std.proofs.lemmas.List.{get_or_read}
-use Rattle.gp_machine.specs.Queue.{Line, head_of}
+use Rattle.gp_machine.specs.Queue.{Line}
+use Rattle.gp_journal.specs.Standing.{head_of}
 use Rattle.gp_machine.proofs.Rings.{head_is}
 use Rattle.gp_machine.proofs.queue.Queue.head.Goals as goal
 

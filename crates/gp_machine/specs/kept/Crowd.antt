@@ -1,6 +1,7 @@
 -- The goroutines that were born, with what is counted of them, and marks of who has still to be recorded.
 use Rattle.std.specs.Prelude.{◌≡◌, ◌≤◌, ℕ, Bool, false, not, ◌&&◌, List, length, get_or, count_by, if◌then◌else◌}
 use Rattle.gp_journal.specs.declared.goroutine.Goroutine.{Goroutine}
+use Rattle.gp_isa.specs.Limits.{most_cells}
 pub use Rattle.gp_journal.specs.Standing.{first_behind}
 use Rattle.gp_journal.specs.State.{nobody, is_runnable, is_running, is_live, is_behind}
 
@@ -21,7 +22,7 @@ one_if b = if b then 1 else 0
 -- The numbers and marks are those of the goroutines.
 pub record AreCounted (cells room : ℕ) (all : List Goroutine) (active live running runnable : ℕ) (recorded unrecorded : List Bool) : Type 0 where
   pub reserved : cells ≤ room
-  pub few : cells ≤ 16384
+  pub few : cells ≤ most_cells
   pub born : length all ≤ cells
   pub recorded_marks : length recorded ≡ cells
   pub unrecorded_marks : length unrecorded ≡ cells

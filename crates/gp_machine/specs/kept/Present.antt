@@ -7,12 +7,10 @@ use Rattle.gp_isa.specs.Trace.{trace}
 use Rattle.gp_sync.specs.declared.effect.Effect.{Effect}
 use Rattle.gp_sync.specs.declared.effect.Effect.TheVariants.{Wakes}
 use Rattle.gp_journal.specs.declared.goroutine.Status.TheVariants.{Blocked}
-use Rattle.gp_machine.specs.declared.present.Plan.{Plan}
 use Rattle.gp_journal.specs.declared.settings.Settings.{Settings}
+use Rattle.gp_machine.specs.declared.present.Plan.{Plan}
 use Rattle.gp_journal.specs.Settings.{AreInRange, period}
 use Rattle.gp_journal.specs.State.{State, goroutine, worker, births}
-pub use Rattle.gp_journal.specs.Reached.{IsReached, Runs}
-pub use Rattle.gp_journal.specs.Shown.{IsPointOf, IsGiven, IsPeekAt}
 use Rattle.gp_journal.specs.Standing.{times}
 
 -- The numbers that stay are those of a program and its options: the length of each trace, the period of the ticks,
