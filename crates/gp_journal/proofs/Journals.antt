@@ -5,9 +5,12 @@ use Rattle.gp_isa.specs.Statement.{action-work, action-spawn, action-send, actio
 use Rattle.gp_isa.specs.Trace.{Local, Send, Recv, Lock, Unlock, Spawn, Point, point_at, trace, trace_within}
 use Rattle.gp_stack.specs.Goroutine.{next_point, is_ended, stack_of, labels_of, local_ahead}
 use Rattle.gp_journal.specs.declared.entry.Entry.{Entry}
+use Rattle.gp_journal.specs.declared.entry.Ended.{Ended}
 use Rattle.gp_journal.specs.declared.settings.Settings.{Settings}
-use Rattle.gp_journal.specs.State.{Code, code_of, first, births, live}
-use Rattle.gp_journal.specs.Due.{over, asked, due, extent}
+use Rattle.gp_journal.specs.State.{Code, code_of, first}
+use Rattle.gp_journal.specs.Answer.{operation_answer}
+use Rattle.gp_journal.specs.Told.{Told, told_from, done_of, made_of}
+use Rattle.gp_journal.specs.Due.{over, asked, due, extent, ended, IsComplete}
 use Rattle.gp_journal.specs.Effect.{meets, operates, after}
 use Rattle.gp_journal.specs.Run.{last}
 use Rattle.gp_journal.specs.Worked.{Worked, EndsThere, smallest, SmallestProgram, wake, WokenBetween, pair, RoomForTwo, contended, ContendedMutex, deadlocked, Deadlocks, faulty, FaultOfUnlock, six, Ticks, long, FullJournal}
@@ -20,11 +23,17 @@ with_traces program traces = record (code_of program) { points = λ f. get_or tr
 pub code_is : (program : Parts) (traces : List (List Point)) → ((f : ℕ) → trace program f ≡ get_or traces f []) → code_of program ≡ with_traces program traces
 code_is program traces same = λ i. record (code_of program) { points = λ f. same f i }
 
--- A journal of a program with computed numbers.
-works : (code : Code) (settings : Settings) (journal : List Entry) (clock born left epoch : ℕ) → allows_all code settings (first code settings) journal ≡ true →
-    (last code settings journal).clock ≡ clock → births (last code settings journal) ≡ born → live (last code settings journal) ≡ left → (last code settings journal).last_epoch ≡ epoch → Worked code settings journal clock born left epoch
-works code settings journal clock born left epoch legal c b l e =
-    record { legal = legal_from code settings (first code settings) journal legal; its_clock = c; its_births = b; its_live = l; its_epoch = e }
+-- A journal of a program with what is told, computed.
+works : (code : Code) (settings : Settings) (journal : List Entry) (end : Ended) (told : List Told) (done made : List ℕ) → allows_all code settings (first code settings) journal ≡ true →
+    IsComplete settings (last code settings journal) → ended (last code settings journal) ≡ end → told_from code settings (first code settings) journal ≡ told →
+    done_of (last code settings journal) ≡ done → made_of settings journal ≡ made → Worked code settings journal end told done made
+works code settings journal end told done made legal complete e t d m = record {
+  finished = record { legal = legal_from code settings (first code settings) journal legal; complete = complete };
+  its_end = e;
+  its_told = t;
+  its_done = d;
+  its_made = m;
+}
 
 fails : (code : Code) (settings : Settings) (journal : List Entry) (entry : Entry) → allows_all code settings (first code settings) journal ≡ true → allows_all code settings (first code settings) (journal ++ entry ∷ []) ≡ false → EndsThere code settings journal entry
 fails code settings journal entry legal not =
@@ -39,10 +48,10 @@ smallest_same zero = rw action-work refl
 smallest_same (suc f) = refl
 
 smallest_computed : SmallestProgram (with_traces smallest smallest_traces)
-unfolding smallest_traces next_point is_ended stack_of labels_of local_ahead over asked due extent meets operates after
+unfolding smallest_traces next_point is_ended stack_of labels_of local_ahead over asked due extent meets operates operation_answer after
 smallest_computed =
     let code = with_traces smallest smallest_traces in record {
-      journal = works code _ _ 1 1 0 1 refl refl refl refl refl;
+      journal = works code _ _ _ _ _ _ refl (record { is_over = refl; nobody_runs = refl; none_active = refl; none_left = refl }) refl refl refl refl;
       rows = refl;
       no_close = fails code _ _ _ refl refl;
       no_more_points = fails code _ _ _ refl refl;
@@ -65,10 +74,10 @@ wake_same (suc zero) = rw (action-recv, action-work) refl
 wake_same (suc (suc f)) = refl
 
 wake_computed : WokenBetween (with_traces wake wake_traces)
-unfolding wake_traces next_point is_ended stack_of labels_of local_ahead over asked due extent meets operates after
+unfolding wake_traces next_point is_ended stack_of labels_of local_ahead over asked due extent meets operates operation_answer after
 wake_computed =
     let code = with_traces wake wake_traces in record {
-      journal = works code _ _ 1007 2 1 1 refl refl refl refl refl;
+      journal = works code _ _ _ _ _ _ refl (record { is_over = refl; nobody_runs = refl; none_active = refl; none_left = refl }) refl refl refl refl;
       rows = refl;
       taken = refl;
       no_start = fails code _ _ _ refl refl;
@@ -88,12 +97,12 @@ pair_same (suc zero) = rw action-work refl
 pair_same (suc (suc f)) = refl
 
 pair_computed : RoomForTwo (with_traces pair pair_traces)
-unfolding pair_traces next_point is_ended stack_of labels_of local_ahead over asked due extent meets operates after
+unfolding pair_traces next_point is_ended stack_of labels_of local_ahead over asked due extent meets operates operation_answer after
 pair_computed =
     let code = with_traces pair pair_traces in record {
-      refused = works code _ _ 8 2 0 0 refl refl refl refl refl;
-      profiled = works code _ _ 8 2 0 1 refl refl refl refl refl;
-      parallel = works code _ _ 8 2 0 1 refl refl refl refl refl;
+      refused = works code _ _ _ _ _ _ refl (record { is_over = refl; nobody_runs = refl; none_active = refl; none_left = refl }) refl refl refl refl;
+      profiled = works code _ _ _ _ _ _ refl (record { is_over = refl; nobody_runs = refl; none_active = refl; none_left = refl }) refl refl refl refl;
+      parallel = works code _ _ _ _ _ _ refl (record { is_over = refl; nobody_runs = refl; none_active = refl; none_left = refl }) refl refl refl refl;
       rows = refl;
       parallel_rows = refl;
       no_open = fails code _ _ _ refl refl;
@@ -117,9 +126,9 @@ contended_same (suc zero) = rw (action-lock, action-unlock, action-send) refl
 contended_same (suc (suc f)) = refl
 
 contended_computed : ContendedMutex (with_traces contended contended_traces)
-unfolding contended_traces next_point is_ended stack_of labels_of local_ahead over asked due extent meets operates after
+unfolding contended_traces next_point is_ended stack_of labels_of local_ahead over asked due extent meets operates operation_answer after
 contended_computed =
-    let code = with_traces contended contended_traces in record { journal = works code _ _ 1014 3 0 0 refl refl refl refl refl; by_main = refl }
+    let code = with_traces contended contended_traces in record { journal = works code _ _ _ _ _ _ refl (record { is_over = refl; nobody_runs = refl; none_active = refl; none_left = refl }) refl refl refl refl }
 
 pub contended_mutex : ContendedMutex (code_of contended)
 contended_mutex = subst ContendedMutex (sym (code_is contended contended_traces contended_same)) contended_computed
@@ -134,14 +143,12 @@ deadlock_same (suc zero) = rw action-recv refl
 deadlock_same (suc (suc f)) = refl
 
 deadlock_computed : Deadlocks (with_traces deadlocked deadlock_traces)
-unfolding deadlock_traces next_point is_ended stack_of labels_of local_ahead over asked due extent meets operates after
+unfolding deadlock_traces next_point is_ended stack_of labels_of local_ahead over asked due extent meets operates operation_answer after
 deadlock_computed =
     let code = with_traces deadlocked deadlock_traces in record {
-      journal = works code _ _ 1 2 2 1 refl refl refl refl refl;
-      by_deadlock = refl;
+      journal = works code _ _ _ _ _ _ refl (record { is_over = refl; nobody_runs = refl; none_active = refl; none_left = refl }) refl refl refl refl;
       rows = refl;
-      no_cell = works code _ _ 0 1 1 0 refl refl refl refl refl;
-      by_fault = refl;
+      no_cell = works code _ _ _ _ _ _ refl (record { is_over = refl; nobody_runs = refl; none_active = refl; none_left = refl }) refl refl refl refl;
     }
 
 pub deadlocks : Deadlocks (code_of deadlocked)
@@ -156,9 +163,9 @@ faulty_same zero = rw (action-work, action-unlock) refl
 faulty_same (suc f) = refl
 
 faulty_computed : FaultOfUnlock (with_traces faulty faulty_traces)
-unfolding faulty_traces next_point is_ended stack_of labels_of local_ahead over asked due extent meets operates after
+unfolding faulty_traces next_point is_ended stack_of labels_of local_ahead over asked due extent meets operates operation_answer after
 faulty_computed =
-    let code = with_traces faulty faulty_traces in record { journal = works code _ _ 3 1 1 1 refl refl refl refl refl; by_fault = refl; rows = refl }
+    let code = with_traces faulty faulty_traces in record { journal = works code _ _ _ _ _ _ refl (record { is_over = refl; nobody_runs = refl; none_active = refl; none_left = refl }) refl refl refl refl; rows = refl }
 
 pub fault_of_unlock : FaultOfUnlock (code_of faulty)
 fault_of_unlock = subst FaultOfUnlock (sym (code_is faulty faulty_traces faulty_same)) faulty_computed
@@ -172,8 +179,8 @@ six_same zero = rw action-work refl
 six_same (suc f) = refl
 
 six_computed : Ticks (with_traces six six_traces)
-unfolding six_traces next_point is_ended stack_of labels_of local_ahead over asked due extent meets operates after
-six_computed = let code = with_traces six six_traces in record { journal = works code _ _ 6 1 0 0 refl refl refl refl refl }
+unfolding six_traces next_point is_ended stack_of labels_of local_ahead over asked due extent meets operates operation_answer after
+six_computed = let code = with_traces six six_traces in record { journal = works code _ _ _ _ _ _ refl (record { is_over = refl; nobody_runs = refl; none_active = refl; none_left = refl }) refl refl refl refl }
 
 pub ticks : Ticks (code_of six)
 ticks = subst Ticks (sym (code_is six six_traces six_same)) six_computed
@@ -187,9 +194,9 @@ long_same zero = rw action-work refl
 long_same (suc f) = refl
 
 long_computed : FullJournal (with_traces long long_traces)
-unfolding long_traces next_point is_ended stack_of labels_of local_ahead over asked due extent meets operates after
+unfolding long_traces next_point is_ended stack_of labels_of local_ahead over asked due extent meets operates operation_answer after
 long_computed =
-    let code = with_traces long long_traces in record { journal = works code _ _ 5000 1 1 1 refl refl refl refl refl; by_room = refl; rows = refl; no_start = fails code _ _ _ refl refl }
+    let code = with_traces long long_traces in record { journal = works code _ _ _ _ _ _ refl (record { is_over = refl; nobody_runs = refl; none_active = refl; none_left = refl }) refl refl refl refl; rows = refl; no_start = fails code _ _ _ refl refl }
 
 pub full_journal_is : FullJournal (code_of long)
 full_journal_is = subst FullJournal (sym (code_is long long_traces long_same)) long_computed

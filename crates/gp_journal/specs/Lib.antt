@@ -19,5 +19,6 @@ pub mod JournalLaw
 pub mod RunLaws
 pub mod NumberLaws
 pub mod StepLaws
+pub mod Told
 pub mod Worked
 pub mod Named

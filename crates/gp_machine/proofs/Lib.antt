@@ -8,5 +8,3 @@ pub mod Marked
 pub mod Kept
 pub mod Judged
 pub mod Peeked
-pub mod Replays
-pub mod Handed

@@ -23,7 +23,6 @@ pub use Rattle.gp_journal.specs.Worked
 pub use Rattle.gp_journal.specs.Named
 pub mod Queue
 pub mod OnWorker
-pub mod Replayed
 pub mod kept
 pub use Rattle.gp_machine.specs.kept.Crowd
 pub use Rattle.gp_machine.specs.kept.Made

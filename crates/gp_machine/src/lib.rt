@@ -46,8 +46,3 @@ pub use gp_journal::{
 };
 pub use machine::Machine;
 pub use queue::Queue;
-
-#[cfg(test)]
-mod replayed;
-#[cfg(test)]
-mod tests;
