@@ -175,7 +175,8 @@ unfolding after
 entries_after code settings s entry = refl
 
 -- before the journal is full
-room_left : (settings : Settings) (s t : State) → Bounded settings s → Numbered settings t.clock t.workers t.entries (births t) (t.last_epoch + length t.requests) → t.entries ≡ s.entries + 1 → s.entries < settings.entries →
+room_left : (settings : Settings) (s t : State) → Bounded settings s → Numbered settings t.clock t.workers t.entries (births t) (t.last_epoch + length t.requests) → t.entries ≡ s.entries + 1 →
+    s.entries < settings.entries →
     owed (settings.cells + 2) (length t.requests) t.active t.goroutines ≤ owed (settings.cells + 2) (length s.requests) s.active s.goroutines → Bounded settings t
 room_left settings s t bounded n e room less = record {
   little = let a = bounded.little in omega arith;
@@ -199,7 +200,8 @@ OfProfiler (Record actor g) = Unit {0}
 OfProfiler (Close epoch) = Unit {0}
 OfProfiler _ = ⊥
 
-same_held : (code : Code) (settings : Settings) (s : State) (entry : Entry) (now old : ℕ) → now + 1 ≤ old → OfProfiler entry → now + held (after code settings s entry).workers + 1 ≤ old + held s.workers
+same_held : (code : Code) (settings : Settings) (s : State) (entry : Entry) (now old : ℕ) → now + 1 ≤ old → OfProfiler entry →
+    now + held (after code settings s entry).workers + 1 ≤ old + held s.workers
 unfolding after
 same_held code settings s (Open epoch room) now old less own = omega arith
 same_held code settings s (Refuse room n) now old less own = omega arith
@@ -211,13 +213,17 @@ same_held code settings s (Op w g) now old less own = absurd own
 same_held code settings s (Tick w g) now old less own = absurd own
 same_held code settings s (Park w g) now old less own = absurd own
 
-pub step_bounded : (code : Code) (settings : Settings) (s : State) (entry : Entry) → IsWhole s → IsNumbered settings s → IsNumbered settings (after code settings s entry) → May code settings s entry → Bounded settings s → Bounded settings (after code settings s entry)
+pub step_bounded : (code : Code) (settings : Settings) (s : State) (entry : Entry) → IsWhole s → IsNumbered settings s → IsNumbered settings (after code settings s entry) → May code settings s entry →
+    Bounded settings s → Bounded settings (after code settings s entry)
 step_bounded code settings s (Start w g) whole n n' may b =
-    room_left settings s (after code settings s (Start w g)) b n' (entries_after code settings s (Start w g)) ((continues settings s may.not_over).not_full) (quiet_owed code settings s whole n (Start w g) may tt)
+    room_left settings s (after code settings s (Start w g)) b n' (entries_after code settings s (Start w g)) ((continues settings s may.not_over).not_full)
+    (quiet_owed code settings s whole n (Start w g) may tt)
 step_bounded code settings s (Run w g m) whole n n' may b =
-    room_left settings s (after code settings s (Run w g m)) b n' (entries_after code settings s (Run w g m)) ((continues settings s ((run_goes code settings s w g m may.is_next).not_over)).not_full) (quiet_owed code settings s whole n (Run w g m) may tt)
+    room_left settings s (after code settings s (Run w g m)) b n' (entries_after code settings s (Run w g m)) ((continues settings s ((run_goes code settings s w g m may.is_next).not_over)).not_full)
+    (quiet_owed code settings s whole n (Run w g m) may tt)
 step_bounded code settings s (Op w g) whole n n' may b =
-    room_left settings s (after code settings s (Op w g)) b n' (entries_after code settings s (Op w g)) ((continues settings s ((op_goes code settings s w g may.is_next).not_over)).not_full) (quiet_owed code settings s whole n (Op w g) may tt)
+    room_left settings s (after code settings s (Op w g)) b n' (entries_after code settings s (Op w g)) ((continues settings s ((op_goes code settings s w g may.is_next).not_over)).not_full)
+    (quiet_owed code settings s whole n (Op w g) may tt)
 step_bounded code settings s (Tick w g) whole n n' may b =
     let less = quiet_owed code settings s whole n (Tick w g) may tt in
     let h = tick_held code settings s whole n w g may in

@@ -1,5 +1,6 @@
 -- A place in a wait list tells the clock at which its goroutine blocked.
-use Rattle.std.proofs.Common.{◌≡◌, ◌⊎◌, ℕ, ◌+◌, ◌-◌, ◌<◌, ◌≤◌, Bool, true, false, ◌==◌, cond, List, [], ◌∷◌, ◌++◌, length, get_or, set, take, replicate, Some, refl, sym, ap, ◌∙◌, subst, inl, inr, arith, zero, suc, if◌then◌else◌, nat_lt, sum_by, get_or-set_other, get_or-set_same}
+use Rattle.std.proofs.Common.{◌≡◌, ◌⊎◌, ℕ, ◌+◌, ◌-◌, ◌<◌, ◌≤◌, Bool, true, false, ◌==◌, cond, List, [], ◌∷◌, ◌++◌, length, get_or, set, take, replicate, Some, refl, sym, ap, ◌∙◌, subst, inl, inr, arith, zero, suc}
+use Rattle.std.proofs.Common.{if◌then◌else◌, nat_lt, sum_by, get_or-set_other, get_or-set_same}
 use Rattle.std.proofs.lemmas.List.{get_or_past}
 use Rattle.std.proofs.lemmas.List.Sums.{sum_by-cons, get_or-le-sum_by}
 use Rattle.std.proofs.lemmas.Bool.{cases_lt}
@@ -88,7 +89,8 @@ module _ (gs new : List Goroutine) (me : Waiter) (mine : me.since ≡ (get_or ne
   abbrev MutexChosen : Effect × Mutex → Type 0
   MutexChosen outcome = Chosen outcome.0 (MutexTells gs outcome.1) (MutexTells new outcome.1)
 
-  send_tells : (receivers : List Waiter) (capacity : ℕ) (channel : Channel) → channel.receivers ≡ receivers → ChannelTells gs channel → ChannelTells new channel → ChannelChosen (send_to receivers capacity channel me)
+  send_tells : (receivers : List Waiter) (capacity : ℕ) (channel : Channel) → channel.receivers ≡ receivers → ChannelTells gs channel → ChannelTells new channel →
+      ChannelChosen (send_to receivers capacity channel me)
   send_tells (head ∷ rest) capacity channel e tells tells' = (tells.0, tells_tail gs channel.receivers head rest e tells.1)
   send_tells [] capacity channel e tells tells' = room (nat_lt channel.buffered capacity)
     where
@@ -104,7 +106,8 @@ module _ (gs new : List Goroutine) (me : Waiter) (mine : me.since ≡ (get_or ne
       room true = tells
       room false = (tells'.0, tells_push new channel.receivers me mine tells'.1)
 
-  lock_tells : (held : Bool) (mutex : Mutex) → MutexTells gs mutex → MutexTells new mutex → MutexChosen (if held then (Blocks, record mutex { waiters = mutex.waiters ++ me ∷ [] }) else (Done, record mutex { held = true }))
+  lock_tells : (held : Bool) (mutex : Mutex) → MutexTells gs mutex → MutexTells new mutex →
+      MutexChosen (if held then (Blocks, record mutex { waiters = mutex.waiters ++ me ∷ [] }) else (Done, record mutex { held = true }))
   lock_tells true mutex tells tells' = tells_push new mutex.waiters me mine tells'
   lock_tells false mutex tells tells' = tells
 
@@ -156,20 +159,24 @@ module _ (code : Code) (settings : Settings) (w g : ℕ) (s : State) (whole : Is
   meets_tells Done cs ms told = wait_lists_same s.goroutines _ cs ms (set_clock s.goroutines s.goroutines g (passed code 1 (goroutine s g)) same_all refl) told
   meets_tells (Wakes h since) cs ms told =
       let gs = set s.goroutines h (woken_at s.clock (goroutine s h)) in
-      wait_lists_same s.goroutines _ cs ms (set_clock s.goroutines gs g (passed code 1 (get_or gs g nobody)) (set_clock s.goroutines s.goroutines h (woken_at s.clock (goroutine s h)) same_all refl) refl) told
+      wait_lists_same s.goroutines _ cs ms (set_clock s.goroutines gs g (passed code 1 (get_or gs g nobody))
+      (set_clock s.goroutines s.goroutines h (woken_at s.clock (goroutine s h)) same_all refl) refl) told
   meets_tells Blocks cs ms told = told
   meets_tells Fault cs ms told = wait_lists_same s.goroutines _ cs ms (set_clock s.goroutines s.goroutines g _ same_all refl) told
 
-  channel_tells : (c : ℕ) (outcome : Effect × Channel) → Chosen outcome.0 (ChannelTells s.goroutines outcome.1) (ChannelTells blocking outcome.1) → Chosen outcome.0 (WaitListsTell s.goroutines (set s.channels c outcome.1) s.mutexes) (WaitListsTell blocking (set s.channels c outcome.1) s.mutexes)
+  channel_tells : (c : ℕ) (outcome : Effect × Channel) → Chosen outcome.0 (ChannelTells s.goroutines outcome.1) (ChannelTells blocking outcome.1) →
+      Chosen outcome.0 (WaitListsTell s.goroutines (set s.channels c outcome.1) s.mutexes) (WaitListsTell blocking (set s.channels c outcome.1) s.mutexes)
   channel_tells c outcome = chosen outcome.0 (with_one_channel s.goroutines s.channels s.mutexes c outcome.1 tell) (with_one_channel blocking s.channels s.mutexes c outcome.1 tell_blocking)
 
-  mutex_tells : (m : ℕ) (outcome : Effect × Mutex) → Chosen outcome.0 (MutexTells s.goroutines outcome.1) (MutexTells blocking outcome.1) → Chosen outcome.0 (WaitListsTell s.goroutines s.channels (set s.mutexes m outcome.1)) (WaitListsTell blocking s.channels (set s.mutexes m outcome.1))
+  mutex_tells : (m : ℕ) (outcome : Effect × Mutex) → Chosen outcome.0 (MutexTells s.goroutines outcome.1) (MutexTells blocking outcome.1) →
+      Chosen outcome.0 (WaitListsTell s.goroutines s.channels (set s.mutexes m outcome.1)) (WaitListsTell blocking s.channels (set s.mutexes m outcome.1))
   mutex_tells m outcome = chosen outcome.0 (with_one_mutex s.goroutines s.channels s.mutexes m outcome.1 tell) (with_one_mutex blocking s.channels s.mutexes m outcome.1 tell_blocking)
 
   spawns_tell : (function : ℕ) (room : Bool) → let t = if room then passes code settings w g 1 (bears code function g s) else faults 2 w g s in WaitListsTell t.goroutines t.channels t.mutexes
   spawns_tell function true =
       let gs = s.goroutines ++ child_of code function g s ∷ [] in
-      let born : SameClocks s.goroutines gs = pushed (λ k x. x.blocked ≡ (goroutine s k).blocked) nobody s.goroutines (child_of code function g s) (ap (λ (x : Goroutine). x.blocked) (sym (get_or_past s.goroutines (length s.goroutines) nobody (omega arith)))) same_all in
+      let born : SameClocks s.goroutines gs = pushed (λ k x. x.blocked ≡ (goroutine s k).blocked) nobody s.goroutines (child_of code function g s)
+      (ap (λ (x : Goroutine). x.blocked) (sym (get_or_past s.goroutines (length s.goroutines) nobody (omega arith)))) same_all in
       wait_lists_same s.goroutines _ s.channels s.mutexes (set_clock s.goroutines gs g (passed code 1 (get_or gs g nobody)) born refl) tell
   spawns_tell function false = wait_lists_same s.goroutines _ s.channels s.mutexes (set_clock s.goroutines s.goroutines g _ same_all refl) tell
 
@@ -179,10 +186,12 @@ module _ (code : Code) (settings : Settings) (w g : ℕ) (s : State) (whole : Is
   operates_tell (Labels l) = tell
   operates_tell (Send c) =
       let outcome = send (code.capacity c) (channel s c) (waiter s g) in
-      meets_tells outcome.0 _ _ (channel_tells c outcome (send_tells s.goroutines blocking (waiter s g) mine (channel s c).receivers (code.capacity c) (channel s c) refl (tell.senders c, tell.receivers c) (tell_blocking.senders c, tell_blocking.receivers c)))
+      meets_tells outcome.0 _ _ (channel_tells c outcome (send_tells s.goroutines blocking (waiter s g) mine (channel s c).receivers (code.capacity c) (channel s c) refl
+      (tell.senders c, tell.receivers c) (tell_blocking.senders c, tell_blocking.receivers c)))
   operates_tell (Recv c) =
       let outcome = recv (channel s c) (waiter s g) in
-      meets_tells outcome.0 _ _ (channel_tells c outcome (recv_tells s.goroutines blocking (waiter s g) mine (channel s c).senders (channel s c) refl (tell.senders c, tell.receivers c) (tell_blocking.senders c, tell_blocking.receivers c)))
+      meets_tells outcome.0 _ _ (channel_tells c outcome (recv_tells s.goroutines blocking (waiter s g) mine (channel s c).senders (channel s c) refl (tell.senders c, tell.receivers c)
+      (tell_blocking.senders c, tell_blocking.receivers c)))
   operates_tell (Lock m) =
       let outcome = lock (mutex s m) (waiter s g) in
       meets_tells outcome.0 _ _ (mutex_tells m outcome (lock_tells s.goroutines blocking (waiter s g) mine (mutex s m).held (mutex s m) (tell.waiters m) (tell_blocking.waiters m)))
@@ -191,10 +200,12 @@ module _ (code : Code) (settings : Settings) (w g : ℕ) (s : State) (whole : Is
       meets_tells outcome.0 _ _ (mutex_tells m outcome (unlock_tells s.goroutines blocking (waiter s g) mine (mutex s m).held (mutex s m).waiters (mutex s m) refl (tell.waiters m)))
   operates_tell (Spawn function) = spawns_tell function (nat_lt (births s) settings.cells)
 
-  acts_tell : (granted : Bool) → let t = if granted then passes code settings w g 1 (with_goroutine g (record (goroutine s g) { granted = false }) s) else operates code settings w g (next_instruction code s g) s in WaitListsTell t.goroutines t.channels t.mutexes
+  acts_tell : (granted : Bool) → let t = if granted then passes code settings w g 1 (with_goroutine g (record (goroutine s g) { granted = false }) s) else operates code settings w g
+      (next_instruction code s g) s in WaitListsTell t.goroutines t.channels t.mutexes
   acts_tell true =
       let gs = set s.goroutines g (unmarked (goroutine s g)) in
-      wait_lists_same s.goroutines _ s.channels s.mutexes (set_clock s.goroutines gs g (passed code 1 (get_or gs g nobody)) (set_clock s.goroutines s.goroutines g (unmarked (goroutine s g)) same_all refl) refl) tell
+      wait_lists_same s.goroutines _ s.channels s.mutexes (set_clock s.goroutines gs g (passed code 1 (get_or gs g nobody))
+      (set_clock s.goroutines s.goroutines g (unmarked (goroutine s g)) same_all refl) refl) tell
   acts_tell false = operates_tell (next_instruction code s g)
 
 one_changed : (s : State) (g : ℕ) (y : Goroutine) → y.blocked ≡ (goroutine s g).blocked → WaitListsTell s.goroutines s.channels s.mutexes → WaitListsTell (set s.goroutines g y) s.channels s.mutexes

@@ -36,7 +36,8 @@ sum_same_at f d xs i y (inl within) e = omega (arith, sum_by-set f xs i y d with
 sum_same_at f d xs i y (inr past) e = ap (sum_by f) (set_past xs i y past)
 
 -- another worker in the place of one, with the same number of instructions
-pub with_other : (settings : Settings) (clock : ℕ) (ws : List Worker) (entries born given w : ℕ) (v : Worker) → Numbered settings clock ws entries born given → v.instructions ≡ (get_or ws w resting).instructions → v.slice ≤ quantum → Numbered settings clock (set ws w v) (entries + 1) born given
+pub with_other : (settings : Settings) (clock : ℕ) (ws : List Worker) (entries born given w : ℕ) (v : Worker) → Numbered settings clock ws entries born given →
+    v.instructions ≡ (get_or ws w resting).instructions → v.slice ≤ quantum → Numbered settings clock (set ws w v) (entries + 1) born given
 with_other settings clock ws entries born given w v n same slice = record {
   sum = n.sum ∙ sym (sum_same_at (λ (u : Worker). u.instructions) resting ws w v (cases_lt w (length ws)) same);
   bound = let b = n.bound in omega arith;
@@ -46,7 +47,8 @@ with_other settings clock ws entries born given w v n same slice = record {
   number = length-set ws w v ∙ n.number;
 }
 
-pub one_more : (settings : Settings) (clock : ℕ) (ws : List Worker) (entries born given born' given' : ℕ) → Numbered settings clock ws entries born given → born' ≤ settings.cells → given' ≤ length settings.at → Numbered settings clock ws (entries + 1) born' given'
+pub one_more : (settings : Settings) (clock : ℕ) (ws : List Worker) (entries born given born' given' : ℕ) → Numbered settings clock ws entries born given → born' ≤ settings.cells →
+    given' ≤ length settings.at → Numbered settings clock ws (entries + 1) born' given'
 one_more settings clock ws entries born given born' given' n few less = record {
   sum = n.sum;
   bound = let b = n.bound in omega arith;
@@ -57,7 +59,8 @@ one_more settings clock ws entries born given born' given' n few less = record {
 }
 
 -- a worker that has run n instructions more
-pub with_more : (settings : Settings) (clock : ℕ) (ws : List Worker) (entries born given born' w n : ℕ) (died : Bool) → Numbered settings clock ws entries born given → w < length ws → n ≤ quantum - (get_or ws w resting).slice → born' ≤ settings.cells → Numbered settings (clock + n) (set ws w (worked settings n died (get_or ws w resting))) (entries + 1) born' given
+pub with_more : (settings : Settings) (clock : ℕ) (ws : List Worker) (entries born given born' w n : ℕ) (died : Bool) → Numbered settings clock ws entries born given → w < length ws →
+    n ≤ quantum - (get_or ws w resting).slice → born' ≤ settings.cells → Numbered settings (clock + n) (set ws w (worked settings n died (get_or ws w resting))) (entries + 1) born' given
 with_more settings clock ws entries born given born' w n died it within most few =
     let v = worked settings n died (get_or ws w resting) in record {
       sum = let a = sum_by-set (λ (u : Worker). u.instructions) ws w v resting within in let b = it.sum in omega arith;
@@ -77,7 +80,8 @@ next_request settings s e = at s.requests ((and_parts (s.active == 0) (calls_for
     at (r ∷ rest) e = omega arith
 
 module _ (code : Code) (settings : Settings) (w g : ℕ) (s : State) (whole : IsWhole s) (numbered : IsNumbered settings s) (runs : (worker s w).runs ≡ Some g) where
-  ran : (n born : ℕ) (died : Bool) → n ≤ quantum - (worker s w).slice → born ≤ settings.cells → Numbered settings (s.clock + n) (set s.workers w (worked settings n died (worker s w))) (s.entries + 1) born (s.last_epoch + length s.requests)
+  ran : (n born : ℕ) (died : Bool) → n ≤ quantum - (worker s w).slice → born ≤ settings.cells →
+      Numbered settings (s.clock + n) (set s.workers w (worked settings n died (worker s w))) (s.entries + 1) born (s.last_epoch + length s.requests)
   ran n born died most few = with_more settings s.clock s.workers s.entries (births s) (s.last_epoch + length s.requests) born w n died numbered (busy_within code settings s w g runs) most few
 
   left_it : (born : ℕ) → born ≤ settings.cells → Numbered settings s.clock (set s.workers w (left (worker s w))) (s.entries + 1) born (s.last_epoch + length s.requests)
@@ -85,7 +89,8 @@ module _ (code : Code) (settings : Settings) (w g : ℕ) (s : State) (whole : Is
       let it = with_other settings s.clock s.workers s.entries (births s) (s.last_epoch + length s.requests) w (left (worker s w)) numbered refl (numbered.slices w) in
       record { sum = it.sum; bound = it.bound; slices = it.slices; born_bound = few; epochs = it.epochs; number = it.number }
 
-  acted : GoesOn settings s w → Numbered settings (acts code settings w g s).clock (acts code settings w g s).workers (s.entries + 1) (births (acts code settings w g s)) ((acts code settings w g s).last_epoch + length (acts code settings w g s).requests)
+  acted : GoesOn settings s w → Numbered settings (acts code settings w g s).clock (acts code settings w g s).workers (s.entries + 1) (births (acts code settings w g s))
+      ((acts code settings w g s).last_epoch + length (acts code settings w g s).requests)
   acted goes =
       let one : 1 ≤ quantum - (worker s w).slice = let a = numbered.slices w in let b = goes.slice_left in omega arith in
       acts_all code settings w g s (λ t. Numbered settings t.clock t.workers (s.entries + 1) (births t) (t.last_epoch + length t.requests)) whole (record {

@@ -41,7 +41,8 @@ pub record Fates (gs : List Goroutine) (fault : ℕ) : Type 0 where
 -- a goroutine that turns neither dead nor faulted
 alive : (gs : List Goroutine) (fault g : ℕ) (y : Goroutine) → Fates gs fault → is_dead y.status ≡ false → (y.status ≡ Faulted → 1 ≤ fault) → Fates (set gs g y) fault
 alive gs fault g y fates lives none = record {
-  main_lives = λ some. changed (λ k x. k ≡ 0 → is_dead x.status ≡ false) nobody gs g y (λ e. lives) (λ k e. subst (λ n. is_dead (get_or gs n nobody).status ≡ false) (sym e) (fates.main_lives some)) 0 refl;
+  main_lives = λ some. changed (λ k x. k ≡ 0 → is_dead x.status ≡ false) nobody gs g y (λ e. lives)
+      (λ k e. subst (λ n. is_dead (get_or gs n nobody).status ≡ false) (sym e) (fates.main_lives some)) 0 refl;
   faulted = changed (λ k x. x.status ≡ Faulted → 1 ≤ fault) nobody gs g y none fates.faulted;
 }
 
@@ -62,7 +63,8 @@ passed_innocent code n x none = at (is_over_after code n x)
 passer : (code : Code) (n g : ℕ) (gs : List Goroutine) → Fates gs 0 → Fates (set gs g (passed code n (get_or gs g nobody))) 0
 passer code n g gs fates = innocent gs g (passed code n (get_or gs g nobody)) fates (passed_innocent code n (get_or gs g nobody) (λ e. let bad = fates.faulted g e in omega arith))
 
-acted : (code : Code) (settings : Settings) (w g : ℕ) (s : State) → IsWhole s → Fates s.goroutines s.fault → over settings s ≡ false → Fates (acts code settings w g s).goroutines (acts code settings w g s).fault
+acted : (code : Code) (settings : Settings) (w g : ℕ) (s : State) → IsWhole s → Fates s.goroutines s.fault → over settings s ≡ false →
+    Fates (acts code settings w g s).goroutines (acts code settings w g s).fault
 acted code settings w g s whole fates not_over =
     let c = continues settings s not_over in
     let clean : Fates s.goroutines 0 = subst (Fates s.goroutines) c.no_fault fates in
@@ -74,7 +76,8 @@ acted code settings w g s whole fates not_over =
       woke = λ cs ms h blocked. rw c.no_fault (passer code 1 g _ (innocent s.goroutines h (woken_at s.clock (goroutine s h)) clean (λ e. absurd (cc))));
       blocked = λ cs ms. rw c.no_fault (innocent s.goroutines g (blocked_at s.clock (goroutine s g)) clean (λ e. absurd (cc)));
       faulted = λ cause cs ms some. record {
-        main_lives = λ one. changed (λ k x. k ≡ 0 → is_dead x.status ≡ false) nobody s.goroutines g (turned Faulted (goroutine s g)) (λ e. refl) (λ k e. subst (λ n. is_dead (goroutine s n).status ≡ false) (sym e) c.main_alive) 0 refl;
+        main_lives = λ one. changed (λ k x. k ≡ 0 → is_dead x.status ≡ false) nobody s.goroutines g (turned Faulted (goroutine s g)) (λ e. refl)
+            (λ k e. subst (λ n. is_dead (goroutine s n).status ≡ false) (sym e) c.main_alive) 0 refl;
         faulted = λ k e. some;
       };
       bore = λ function room. rw c.no_fault (passer code 1 g _ (record {
@@ -83,7 +86,8 @@ acted code settings w g s whole fates not_over =
       }));
     })
 
-pub step_fates : (code : Code) (settings : Settings) (s : State) (entry : Entry) → IsWhole s → Fates s.goroutines s.fault → May code settings s entry → Fates (after code settings s entry).goroutines (after code settings s entry).fault
+pub step_fates : (code : Code) (settings : Settings) (s : State) (entry : Entry) → IsWhole s → Fates s.goroutines s.fault → May code settings s entry →
+    Fates (after code settings s entry).goroutines (after code settings s entry).fault
 unfolding after
 step_fates code settings s (Start w g) whole fates may = alive s.goroutines s.fault g (turned (Running w) (goroutine s g)) fates refl (λ e. absurd (cc))
 step_fates code settings s (Run w g n) whole fates may =
@@ -95,7 +99,8 @@ step_fates code settings s (Park w g) whole fates may = alive s.goroutines s.fau
 step_fates code settings s (Open epoch room) whole fates may = fates
 step_fates code settings s (Refuse room n) whole fates may = fates
 step_fates code settings s (Record actor g) whole fates may = record {
-  main_lives = λ some. changed (λ k x. k ≡ 0 → is_dead x.status ≡ false) nobody s.goroutines g y (λ e. subst (λ n. is_dead (goroutine s n).status ≡ false) (sym e) (fates.main_lives some)) (λ k e. subst (λ n. is_dead (goroutine s n).status ≡ false) (sym e) (fates.main_lives some)) 0 refl;
+  main_lives = λ some. changed (λ k x. k ≡ 0 → is_dead x.status ≡ false) nobody s.goroutines g y (λ e. subst (λ n. is_dead (goroutine s n).status ≡ false) (sym e) (fates.main_lives some))
+      (λ k e. subst (λ n. is_dead (goroutine s n).status ≡ false) (sym e) (fates.main_lives some)) 0 refl;
   faulted = changed (λ k x. x.status ≡ Faulted → 1 ≤ s.fault) nobody s.goroutines g y (fates.faulted g) fates.faulted;
 }
   where

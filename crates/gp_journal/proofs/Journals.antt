@@ -13,7 +13,7 @@ use Rattle.gp_journal.specs.Told.{Told, told_from, done_of, made_of}
 use Rattle.gp_journal.specs.Due.{over, asked, due, extent, ended, IsComplete}
 use Rattle.gp_journal.specs.Effect.{meets, operates, after}
 use Rattle.gp_journal.specs.Run.{last}
-use Rattle.gp_journal.specs.Worked.{Worked, EndsThere, smallest, SmallestProgram, wake, WokenBetween, pair, RoomForTwo, contended, ContendedMutex, deadlocked, Deadlocks, faulty, FaultOfUnlock, six, Ticks, long, FullJournal}
+use Rattle.gp_journal.specs.Worked.{SmallExamples, Worked, EndsThere, smallest, SmallestProgram, wake, WokenBetween, pair, RoomForTwo, contended, ContendedMutex, deadlocked, Deadlocks, faulty, FaultOfUnlock, six, Ticks, long, FullJournal}
 use Rattle.gp_journal.proofs.Allows.{allows_all, legal_from, not_legal}
 
 -- the code of a program, where the traces of its functions are these
@@ -35,7 +35,8 @@ works code settings journal end told done made legal complete e t d m = record {
   its_made = m;
 }
 
-fails : (code : Code) (settings : Settings) (journal : List Entry) (entry : Entry) → allows_all code settings (first code settings) journal ≡ true → allows_all code settings (first code settings) (journal ++ entry ∷ []) ≡ false → EndsThere code settings journal entry
+fails : (code : Code) (settings : Settings) (journal : List Entry) (entry : Entry) → allows_all code settings (first code settings) journal ≡ true →
+    allows_all code settings (first code settings) (journal ++ entry ∷ []) ≡ false → EndsThere code settings journal entry
 fails code settings journal entry legal not =
     record { legal = legal_from code settings (first code settings) journal legal; refused = not_legal code settings (first code settings) (journal ++ entry ∷ []) not }
 
@@ -128,7 +129,10 @@ contended_same (suc (suc f)) = refl
 contended_computed : ContendedMutex (with_traces contended contended_traces)
 unfolding contended_traces next_point is_ended stack_of labels_of local_ahead over asked due extent meets operates operation_answer after
 contended_computed =
-    let code = with_traces contended contended_traces in record { journal = works code _ _ _ _ _ _ refl (record { is_over = refl; nobody_runs = refl; none_active = refl; none_left = refl }) refl refl refl refl }
+    let code = with_traces contended contended_traces in record {
+      journal = works code _ _ _ _ _ _ refl
+          (record { is_over = refl; nobody_runs = refl; none_active = refl; none_left = refl }) refl refl refl refl;
+    }
 
 pub contended_mutex : ContendedMutex (code_of contended)
 contended_mutex = subst ContendedMutex (sym (code_is contended contended_traces contended_same)) contended_computed
@@ -165,7 +169,11 @@ faulty_same (suc f) = refl
 faulty_computed : FaultOfUnlock (with_traces faulty faulty_traces)
 unfolding faulty_traces next_point is_ended stack_of labels_of local_ahead over asked due extent meets operates operation_answer after
 faulty_computed =
-    let code = with_traces faulty faulty_traces in record { journal = works code _ _ _ _ _ _ refl (record { is_over = refl; nobody_runs = refl; none_active = refl; none_left = refl }) refl refl refl refl; rows = refl }
+    let code = with_traces faulty faulty_traces in record {
+      journal = works code _ _ _ _ _ _ refl
+          (record { is_over = refl; nobody_runs = refl; none_active = refl; none_left = refl }) refl refl refl refl;
+      rows = refl;
+    }
 
 pub fault_of_unlock : FaultOfUnlock (code_of faulty)
 fault_of_unlock = subst FaultOfUnlock (sym (code_is faulty faulty_traces faulty_same)) faulty_computed
@@ -180,7 +188,10 @@ six_same (suc f) = refl
 
 six_computed : Ticks (with_traces six six_traces)
 unfolding six_traces next_point is_ended stack_of labels_of local_ahead over asked due extent meets operates operation_answer after
-six_computed = let code = with_traces six six_traces in record { journal = works code _ _ _ _ _ _ refl (record { is_over = refl; nobody_runs = refl; none_active = refl; none_left = refl }) refl refl refl refl }
+six_computed = let code = with_traces six six_traces in record {
+  journal = works code _ _ _ _ _ _ refl
+      (record { is_over = refl; nobody_runs = refl; none_active = refl; none_left = refl }) refl refl refl refl;
+}
 
 pub ticks : Ticks (code_of six)
 ticks = subst Ticks (sym (code_is six six_traces six_same)) six_computed
@@ -196,7 +207,15 @@ long_same (suc f) = refl
 long_computed : FullJournal (with_traces long long_traces)
 unfolding long_traces next_point is_ended stack_of labels_of local_ahead over asked due extent meets operates operation_answer after
 long_computed =
-    let code = with_traces long long_traces in record { journal = works code _ _ _ _ _ _ refl (record { is_over = refl; nobody_runs = refl; none_active = refl; none_left = refl }) refl refl refl refl; rows = refl; no_start = fails code _ _ _ refl refl }
+    let code = with_traces long long_traces in record {
+      journal = works code _ _ _ _ _ _ refl
+          (record { is_over = refl; nobody_runs = refl; none_active = refl; none_left = refl }) refl refl refl refl;
+      rows = refl;
+      no_start = fails code _ _ _ refl refl;
+    }
 
 pub full_journal_is : FullJournal (code_of long)
 full_journal_is = subst FullJournal (sym (code_is long long_traces long_same)) long_computed
+
+pub small_examples : SmallExamples
+small_examples = record { come = refl; to_come = refl; never_by_clock = refl; sorted_rows = refl }

@@ -84,7 +84,8 @@ keeps_epochs s whole = record {
         by Faulted e = refl
         by Dead e = e
 
-    runs_last : (g : ℕ) → 0 < s.active → is_running (goroutine s g).status ≡ true → ((goroutine s g).epoch ≡ s.last_epoch) ⊎ Behind s.active s.last_epoch (goroutine s g) → (goroutine s g).epoch ≡ s.active
+    runs_last : (g : ℕ) → 0 < s.active → is_running (goroutine s g).status ≡ true → ((goroutine s g).epoch ≡ s.last_epoch) ⊎ Behind s.active s.last_epoch (goroutine s g) →
+        (goroutine s g).epoch ≡ s.active
     runs_last g some e (inl same) = same ∙ sym (active_last s whole some)
     runs_last g some e (inr behind) = absurd (true≢false (sym e ∙ behind.2))
 
@@ -98,7 +99,8 @@ keeps_epochs s whole = record {
 
 pub epochs_hold : EpochsHold
 epochs_hold code settings journal k legal =
-    keeps_epochs (at code settings journal k) (all_whole code settings (first code settings) (take k journal) (first_whole code settings) (prefix_legal code settings (first code settings) k journal legal))
+    keeps_epochs (at code settings journal k) (all_whole code settings (first code settings) (take k journal) (first_whole code settings)
+    (prefix_legal code settings (first code settings) k journal legal))
 
 -- a quiet entry leaves the active profile
 pub quiet_active : (code : Code) (settings : Settings) (s : State) (entry : Entry) → IsWhole s → May code settings s entry → IsQuiet entry → (after code settings s entry).active ≡ s.active
@@ -127,7 +129,8 @@ abbrev Taken : Code → Settings → State → List Entry → Type 0
 Taken code settings s entries = sorted (rows_taken code settings s entries) ≡ missing code s.active 0 s.goroutines
 
 -- What holds of every whole state with an active profile and of the entries from it on, holds before a quiet entry.
-quiet_taken : (code : Code) (settings : Settings) (s : State) (entry : Entry) (entries : List Entry) → IsWhole s → 0 < s.active → May code settings s entry × AreLegal code settings (after code settings s entry) entries → IsQuiet entry →
+quiet_taken : (code : Code) (settings : Settings) (s : State) (entry : Entry) (entries : List Entry) → IsWhole s → 0 < s.active →
+    May code settings s entry × AreLegal code settings (after code settings s entry) entries → IsQuiet entry →
     ((t : State) → IsWhole t → 0 < t.active → AreLegal code settings t entries → Taken code settings t entries) →
     sorted (rows_taken code settings (after code settings s entry) entries) ≡ missing code s.active 0 s.goroutines
 quiet_taken code settings s entry entries whole some legal quiet rest =
@@ -152,7 +155,8 @@ record_taken code settings s actor g entries whole may taken =
 pub none_opens : (settings : Settings) (s : State) (epoch room : ℕ) → 0 < s.active → MayOpen settings s epoch room → ⊥
 none_opens settings s epoch room some may = let none = none_active settings s may.is_asked in omega arith
 
-all_taken : (code : Code) (settings : Settings) (entries : List Entry) → has_close entries ≡ true → (s : State) → IsWhole s → 0 < s.active → AreLegal code settings s entries → Taken code settings s entries
+all_taken : (code : Code) (settings : Settings) (entries : List Entry) → has_close entries ≡ true → (s : State) → IsWhole s → 0 < s.active → AreLegal code settings s entries →
+    Taken code settings s entries
 all_taken code settings [] closes s whole some legal = absurd (true≢false (sym closes))
 all_taken code settings (Close epoch ∷ entries) closes s whole some legal =
     sym (missing_none code s.active 0 s.goroutines (none_counted (is_behind s.active) nobody s.goroutines refl legal.0.all_recorded))
@@ -236,7 +240,8 @@ unfolding after
 record_same_active code settings s actor g = refl
 
 -- what follows after an entry that leaves the active profile
-after_entry : (code : Code) (settings : Settings) (s : State) (entry : Entry) (entries : List Entry) → IsWhole s → 0 < s.active → May code settings s entry × AreLegal code settings (after code settings s entry) entries →
+after_entry : (code : Code) (settings : Settings) (s : State) (entry : Entry) (entries : List Entry) → IsWhole s → 0 < s.active →
+    May code settings s entry × AreLegal code settings (after code settings s entry) entries →
     (after code settings s entry).active ≡ s.active → Follows s.active s.goroutines (after code settings s entry).goroutines →
     ((t : State) → IsWhole t → 0 < t.active → AreLegal code settings t entries → Follows t.active t.goroutines (after_all code settings t entries).goroutines) →
     Follows s.active s.goroutines (after_all code settings (after code settings s entry) entries).goroutines
@@ -246,14 +251,16 @@ after_entry code settings s entry entries whole some legal same first_step rest 
     follows_again s.active s.goroutines t.goroutines (after_all code settings t entries).goroutines first_step
     (subst (λ a. Follows a t.goroutines (after_all code settings t entries).goroutines) same more)
 
-quiet_follows : (code : Code) (settings : Settings) (s : State) (entry : Entry) (entries : List Entry) → IsWhole s → 0 < s.active → May code settings s entry × AreLegal code settings (after code settings s entry) entries → IsQuiet entry →
+quiet_follows : (code : Code) (settings : Settings) (s : State) (entry : Entry) (entries : List Entry) → IsWhole s → 0 < s.active →
+    May code settings s entry × AreLegal code settings (after code settings s entry) entries → IsQuiet entry →
     ((t : State) → IsWhole t → 0 < t.active → AreLegal code settings t entries → Follows t.active t.goroutines (after_all code settings t entries).goroutines) →
     Follows s.active s.goroutines (after_all code settings (after code settings s entry) entries).goroutines
 quiet_follows code settings s entry entries whole some legal quiet rest =
     after_entry code settings s entry entries whole some legal (quiet_active code settings s entry whole legal.0 quiet)
     (follows_settled s.active s.goroutines (after code settings s entry).goroutines (step_settled code settings s entry whole legal.0 quiet)) rest
 
-all_follow : (code : Code) (settings : Settings) (entries : List Entry) → has_close entries ≡ false → (s : State) → IsWhole s → 0 < s.active → AreLegal code settings s entries → Follows s.active s.goroutines (after_all code settings s entries).goroutines
+all_follow : (code : Code) (settings : Settings) (entries : List Entry) → has_close entries ≡ false → (s : State) → IsWhole s → 0 < s.active → AreLegal code settings s entries →
+    Follows s.active s.goroutines (after_all code settings s entries).goroutines
 all_follow code settings [] none s whole some legal = follows_same s.active s.goroutines
 all_follow code settings (Close epoch ∷ entries) none s whole some legal = absurd (true≢false none)
 all_follow code settings (Open epoch room ∷ entries) none s whole some legal = absurd (none_opens settings s epoch room some legal.0)

@@ -1,5 +1,6 @@
 -- A goroutine is running on a worker exactly where that worker runs it.
-use Rattle.std.proofs.Common.{◌≡◌, ◌⊎◌, ℕ, ◌<◌, ◌≤◌, Bool, true, false, List, [], ◌∷◌, length, get_or, set, take, is_none, Some, None, refl, sym, ap, ◌∙◌, subst, inl, inr, zero, suc, true≢false, if◌then◌else◌, nat_lt, get_or-set_same, get_or-set_other}
+use Rattle.std.proofs.Common.{◌≡◌, ◌⊎◌, ℕ, ◌<◌, ◌≤◌, Bool, true, false, List, [], ◌∷◌, length, get_or, set, take, is_none, Some, None, refl, sym, ap, ◌∙◌, subst, inl, inr, zero, suc, true≢false, if◌then◌else◌, nat_lt}
+use Rattle.std.proofs.Common.{get_or-set_same, get_or-set_other}
 use Rattle.std.proofs.lemmas.List.{get_or_past}
 use Rattle.std.proofs.lemmas.Bool.{cases_lt, and_parts, ltb-true}
 use Rattle.gp_journal.specs.declared.entry.Entry.{Entry}

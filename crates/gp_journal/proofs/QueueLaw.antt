@@ -81,7 +81,8 @@ born gs queue y holds is k = at (cases_eq k (length gs))
     at : (k ≡ length gs) ⊎ (k ≡ length gs → ⊥) → Stands (queue ++ length gs ∷ []) k (get_or (gs ++ y ∷ []) k nobody)
     at (inl same) = subst (λ n. Stands (queue ++ length gs ∷ []) n (get_or (gs ++ y ∷ []) n nobody)) (sym same)
         (rw (get_or_push gs y nobody (length gs) refl)
-        (let a = holds (length gs) in let b = ap (λ (x : Goroutine). one_if (is_runnable x.status)) (get_or_past gs (length gs) nobody (omega arith)) in let c = ap one_if is in let d = at_tail (length gs) (length gs) queue in let e = one_if_eq (length gs) (length gs) refl in omega arith))
+        (let a = holds (length gs) in let b = ap (λ (x : Goroutine). one_if (is_runnable x.status)) (get_or_past gs (length gs) nobody (omega arith)) in let c = ap one_if is in
+        let d = at_tail (length gs) (length gs) queue in let e = one_if_eq (length gs) (length gs) refl in omega arith))
     at (inr other) = pushed (λ n x. (n ≡ length gs → ⊥) → Stands (queue ++ length gs ∷ []) n x) nobody gs y
         (λ never. absurd (never refl))
         (λ n here. at_tail n (length gs) queue ∙ (let a = apart (length gs) n here in let b = holds n in omega arith)) k other
@@ -105,13 +106,15 @@ acted code settings w g s whole held runs =
     acts_all code settings w g s IsHeld whole (record {
       stays = held;
       resumed = passer code (set s.goroutines g (unmarked (goroutine s g))) s.queue g 1 (keeps s.goroutines s.queue g (unmarked (goroutine s g)) held refl)
-          (changed (λ k x. k ≡ g → is_runnable x.status ≡ false) nobody s.goroutines g (unmarked (goroutine s g)) (λ e. isnt) (λ k e. subst (λ n. is_runnable (goroutine s n).status ≡ false) (sym e) isnt) g refl);
+          (changed (λ k x. k ≡ g → is_runnable x.status ≡ false) nobody s.goroutines g (unmarked (goroutine s g)) (λ e. isnt)
+          (λ k e. subst (λ n. is_runnable (goroutine s n).status ≡ false) (sym e) isnt) g refl);
       passed = λ cs ms. passer code s.goroutines s.queue g 1 held isnt;
       woke = λ cs ms h blocked.
           let y = woken_at s.clock (goroutine s h) in
           passer code (set s.goroutines h y) (s.queue ++ h ∷ []) g 1
           (joins s.goroutines s.queue h y held (live_within s.goroutines h (live_status (goroutine s h) blocked refl)) (ap is_runnable blocked) refl)
-          (rw (get_or-set_other s.goroutines h g y nobody (λ same. let clash : Running w ≡ Blocked = sym status ∙ subst (λ n. (goroutine s n).status ≡ Blocked) (sym same) blocked in absurd (cc))) isnt);
+          (rw (get_or-set_other s.goroutines h g y nobody (λ same. let clash : Running w ≡ Blocked = sym status ∙ subst (λ n. (goroutine s n).status ≡ Blocked) (sym same) blocked in absurd (cc)))
+          isnt);
       blocked = λ cs ms. keeps s.goroutines s.queue g (blocked_at s.clock (goroutine s g)) held (sym isnt);
       faulted = λ cause cs ms some. keeps s.goroutines s.queue g (turned Faulted (goroutine s g)) held (sym isnt);
       bore = λ function room.

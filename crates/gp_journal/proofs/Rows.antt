@@ -85,7 +85,8 @@ module _ (code : Code) (settings : Settings) (w g : ℕ) (s : State) (whole : Is
 
   -- g passes a point in a list of goroutines in which others were changed before
   passer : (gs : List Goroutine) (n : ℕ) → Settled s.active s.goroutines gs → s.active ≤ (get_or gs g nobody).epoch → Settled s.active s.goroutines (set gs g (passed code n (get_or gs g nobody)))
-  passer gs n before le = settled_again s.active s.goroutines gs _ before (settled_set s.active gs g (passed code n (get_or gs g nobody)) (unseen s.active (get_or gs g nobody) (passed code n (get_or gs g nobody)) le refl))
+  passer gs n before le = settled_again s.active s.goroutines gs _ before (settled_set s.active gs g (passed code n (get_or gs g nobody))
+      (unseen s.active (get_or gs g nobody) (passed code n (get_or gs g nobody)) le refl))
 
   ran : (n : ℕ) → Settled s.active s.goroutines (passes code settings w g n s).goroutines
   ran n = passer s.goroutines n (λ k. same_behind s.active (goroutine s k)) (ahead s w g whole runs)
@@ -99,11 +100,13 @@ module _ (code : Code) (settings : Settings) (w g : ℕ) (s : State) (whole : Is
     resumed = passer (set s.goroutines g (unmarked (goroutine s g))) 1 (leaver (unmarked (goroutine s g)) refl)
         (epoch_kept _ (changed (λ k x. (goroutine s k).epoch ≤ x.epoch) nobody s.goroutines g (unmarked (goroutine s g)) (omega arith) (λ k. omega arith)));
     passed = λ cs ms. ran 1;
-    woke = λ cs ms h blocked. passer (set s.goroutines h (woken_at s.clock (goroutine s h))) 1 (settled_set s.active s.goroutines h (woken_at s.clock (goroutine s h)) (woken_same s.active s.clock (goroutine s h) blocked))
+    woke = λ cs ms h blocked. passer (set s.goroutines h (woken_at s.clock (goroutine s h))) 1
+        (settled_set s.active s.goroutines h (woken_at s.clock (goroutine s h)) (woken_same s.active s.clock (goroutine s h) blocked))
         (epoch_kept _ (changed (λ k x. (goroutine s k).epoch ≤ x.epoch) nobody s.goroutines h (woken_at s.clock (goroutine s h)) (omega arith) (λ k. omega arith)));
     blocked = λ cs ms. leaver _ refl;
     faulted = λ cause cs ms some. leaver _ refl;
-    bore = λ function room. passer (bears code function g s).goroutines 1 (settled_push s.active s.goroutines (child_of code function g s) (not_behind s.active (child_of code function g s) (active_le s whole)))
+    bore = λ function room. passer (bears code function g s).goroutines 1 (settled_push s.active s.goroutines (child_of code function g s)
+        (not_behind s.active (child_of code function g s) (active_le s whole)))
         (epoch_kept _ (pushed (λ k x. (goroutine s k).epoch ≤ x.epoch) nobody s.goroutines (child_of code function g s)
         (subst (λ (x : Goroutine). x.epoch ≤ s.last_epoch) (sym (get_or_past s.goroutines (length s.goroutines) nobody (omega arith))) (omega arith)) (λ k. omega arith)));
   })
@@ -122,7 +125,8 @@ IsQuiet (Record actor g) = ⊥
 IsQuiet (Close epoch) = ⊥
 IsQuiet _ = Unit {0}
 
-pub step_settled : (code : Code) (settings : Settings) (s : State) (entry : Entry) → IsWhole s → May code settings s entry → IsQuiet entry → Settled s.active s.goroutines (after code settings s entry).goroutines
+pub step_settled : (code : Code) (settings : Settings) (s : State) (entry : Entry) → IsWhole s → May code settings s entry → IsQuiet entry →
+    Settled s.active s.goroutines (after code settings s entry).goroutines
 unfolding after
 step_settled code settings s (Start w g) whole may quiet = settled_set s.active s.goroutines g _ (unseen s.active (goroutine s g) _ (recorded_ahead s g may.recorded) refl)
 step_settled code settings s (Run w g n) whole may quiet = ran code settings w g s whole may.runs n
@@ -156,7 +160,8 @@ missing_same code active n [] (y ∷ ys) h =
 missing_same code active n (x ∷ xs) [] h =
     next_row (is_behind active x) false (row code n x) (row code n x) (missing code active (suc n) xs) [] ((h 0).same) (λ e. refl) (missing_same code active (suc n) xs [] (λ k. h (suc k)))
 missing_same code active n (x ∷ xs) (y ∷ ys) h =
-    next_row (is_behind active x) (is_behind active y) (row code n x) (row code n y) (missing code active (suc n) xs) (missing code active (suc n) ys) ((h 0).same) (λ e. row_same code n x y ((h 0).place e)) (missing_same code active (suc n) xs ys (λ k. h (suc k)))
+    next_row (is_behind active x) (is_behind active y) (row code n x) (row code n y) (missing code active (suc n) xs) (missing code active (suc n) ys) ((h 0).same)
+    (λ e. row_same code n x y ((h 0).place e)) (missing_same code active (suc n) xs ys (λ k. h (suc k)))
 
 -- a row whose number is below those of a list stands at its head
 head_at : (n : ℕ) (r t : Row) (rows : List Row) (b : Bool) → r.g ≤ t.g → inserted r rows ≡ r ∷ rows → inserted r (row_if b t rows) ≡ r ∷ row_if b t rows
@@ -190,7 +195,9 @@ missing_none code active n [] none = refl
 missing_none code active n (x ∷ xs) none = rw (none 0) (missing_none code active (suc n) xs (λ k. none (suc k)))
 
 -- where all that are live are behind, the missing rows are the frozen ones
-pub missing_all : (code : Code) (active n : ℕ) (gs : List Goroutine) → ((k : ℕ) → is_behind active (get_or gs k nobody) ≡ is_live (get_or gs k nobody)) → missing code active n gs ≡ rows_from code is_live n gs
+pub missing_all : (code : Code) (active n : ℕ) (gs : List Goroutine) → ((k : ℕ) → is_behind active (get_or gs k nobody) ≡ is_live (get_or gs k nobody)) →
+    missing code active n gs ≡ rows_from code is_live n gs
 missing_all code active n [] all = refl
 missing_all code active n (x ∷ xs) all =
-    next_row (is_live x) (is_behind active x) (row code n x) (row code n x) (rows_from code is_live (suc n) xs) (missing code active (suc n) xs) (all 0) (λ e. refl) (missing_all code active (suc n) xs (λ k. all (suc k)))
+    next_row (is_live x) (is_behind active x) (row code n x) (row code n x) (rows_from code is_live (suc n) xs) (missing code active (suc n) xs) (all 0) (λ e. refl)
+    (missing_all code active (suc n) xs (λ k. all (suc k)))

@@ -49,7 +49,8 @@ starts_whole w g s whole runnable known = record {
 bears_whole : (code : Code) (function g : ℕ) (s : State) → IsWhole s → IsWhole (bears code function g s)
 bears_whole code function g s whole = gains s.goroutines s.workers s.channels s.mutexes s.active s.last_epoch whole _ refl refl
 
-spawns_whole : (code : Code) (settings : Settings) (w g function : ℕ) (s : State) → IsWhole s → (worker s w).runs ≡ Some g → (room : Bool) → IsWhole (if room then passes code settings w g 1 (bears code function g s) else faults 2 w g s)
+spawns_whole : (code : Code) (settings : Settings) (w g function : ℕ) (s : State) → IsWhole s → (worker s w).runs ≡ Some g → (room : Bool) →
+    IsWhole (if room then passes code settings w g 1 (bears code function g s) else faults 2 w g s)
 spawns_whole code settings w g function s whole runs true = passes_whole code settings w g 1 (bears code function g s) (bears_whole code function g s whole) runs
 spawns_whole code settings w g function s whole runs false = off s w g (turned Faulted (goroutine s g)) (left (worker s w)) whole runs refl refl
 
@@ -71,7 +72,8 @@ operates_whole code settings w g (Unlock m) s whole runs =
     meets_whole code settings w g s s.channels (set s.mutexes m outcome.1) whole runs outcome.0 (λ k. unlock_moves s.channels s.mutexes (waiter s g) k m)
 operates_whole code settings w g (Spawn function) s whole runs = spawns_whole code settings w g function s whole runs (nat_lt (births s) settings.cells)
 
-acts_whole : (code : Code) (settings : Settings) (w g : ℕ) (s : State) → IsWhole s → (worker s w).runs ≡ Some g → (granted : Bool) → IsWhole (if granted then passes code settings w g 1 (with_goroutine g (record (goroutine s g) { granted = false }) s) else operates code settings w g (next_instruction code s g) s)
+acts_whole : (code : Code) (settings : Settings) (w g : ℕ) (s : State) → IsWhole s → (worker s w).runs ≡ Some g → (granted : Bool) →
+    IsWhole (if granted then passes code settings w g 1 (with_goroutine g (record (goroutine s g) { granted = false }) s) else operates code settings w g (next_instruction code s g) s)
 acts_whole code settings w g s whole runs true = resumes_whole code settings w g s whole runs
 acts_whole code settings w g s whole runs false = operates_whole code settings w g (next_instruction code s g) s whole runs
 
@@ -123,7 +125,8 @@ closes_whole epoch s whole may = record {
   is_last = inl refl;
 }
   where
-    all : (g : ℕ) → is_live (goroutine s g) ≡ true → ((goroutine s g).epoch ≡ s.last_epoch) ⊎ Behind s.active s.last_epoch (goroutine s g) → ((goroutine s g).epoch ≡ s.last_epoch) ⊎ Behind 0 s.last_epoch (goroutine s g)
+    all : (g : ℕ) → is_live (goroutine s g) ≡ true → ((goroutine s g).epoch ≡ s.last_epoch) ⊎ Behind s.active s.last_epoch (goroutine s g) →
+        ((goroutine s g).epoch ≡ s.last_epoch) ⊎ Behind 0 s.last_epoch (goroutine s g)
     all g live (inl same) = inl same
     all g live (inr b) =
         let end = active_last s whole may.is_active in

@@ -92,7 +92,8 @@ pub refuse_leaves_all : RefuseLeavesAll
 unfolding after
 refuse_leaves_all code settings state room n = refl
 
-fates_all : (code : Code) (settings : Settings) (s : State) (entries : List Entry) → IsWhole s → Fates s.goroutines s.fault → AreLegal code settings s entries → Fates (after_all code settings s entries).goroutines (after_all code settings s entries).fault
+fates_all : (code : Code) (settings : Settings) (s : State) (entries : List Entry) → IsWhole s → Fates s.goroutines s.fault → AreLegal code settings s entries →
+    Fates (after_all code settings s entries).goroutines (after_all code settings s entries).fault
 fates_all code settings s [] whole fates legal = fates
 fates_all code settings s (entry ∷ entries) whole fates legal =
     fates_all code settings (after code settings s entry) entries (step_whole code settings s entry whole legal.0) (step_fates code settings s entry whole fates legal.0) legal.1

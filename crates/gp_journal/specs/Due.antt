@@ -1,5 +1,5 @@
 -- When a profile is asked for, when a run is over, and which entry of a worker is due.
-use Rattle.std.specs.Prelude.{◌≡◌, refl, ◌-◌, ◌%◌, ℕ, min, Bool, true, false, not, ◌&&◌, ◌||◌, ◌==◌, List, [], ◌∷◌, if◌then◌else◌, nat_le}
+use Rattle.std.specs.Prelude.{◌≡◌, ◌-◌, ◌%◌, ℕ, min, Bool, true, false, not, ◌&&◌, ◌||◌, ◌==◌, List, [], ◌∷◌, if◌then◌else◌, nat_le}
 use Rattle.std.specs.List.{list_any}
 use Rattle.gp_isa.specs.Trace.{Instruction, is_local}
 use Rattle.gp_stack.specs.Goroutine.{next_point, local_ahead}
@@ -84,13 +84,3 @@ due code settings state w g =
     else if asked settings state || over settings state || ((worker state w).slice == quantum) then Park w g
     else if not (is_local (next_instruction code state g)) then Op w g
     else Run w g (extent code settings state w g)
-
--- Three examples: an instant at the clock has come, one above it hasn't, and the end never comes by the clock.
-come : has_come 5 (Clock 5) ≡ true
-come = refl
-
-to_come : has_come 5 (Clock 6) ≡ false
-to_come = refl
-
-never_by_clock : has_come 5 End ≡ false
-never_by_clock = refl

@@ -1,5 +1,5 @@
 -- The rows of a goroutine profile: what a profile has to show, and what the Record entries take.
-use Rattle.std.specs.Prelude.{◌≡◌, refl, ℕ, suc, Bool, List, [], ◌∷◌, take, if◌then◌else◌, nat_le}
+use Rattle.std.specs.Prelude.{ℕ, suc, Bool, List, [], ◌∷◌, take, if◌then◌else◌, nat_le}
 use Rattle.gp_stack.specs.declared.record.Record.{Record as Row}
 use Rattle.gp_isa.specs.Limits.{goroutine_frames}
 use Rattle.gp_stack.specs.Goroutine.{stack_of, labels_of}
@@ -30,7 +30,8 @@ frozen code state = rows_from code is_live 0 state.goroutines
 -- The rows that entries take, from a state on, up to the first Close: each Record the row of its goroutine.
 abbrev pub rows_taken : Code → Settings → State → List Entry → List Row
 rows_taken code settings state [] = []
-rows_taken code settings state (Record actor g ∷ entries) = row code g (goroutine state g) ∷ rows_taken code settings (after code settings state (Record actor g)) entries
+rows_taken code settings state (Record actor g ∷ entries) =
+    row code g (goroutine state g) ∷ rows_taken code settings (after code settings state (Record actor g)) entries
 rows_taken code settings state (Close epoch ∷ entries) = []
 rows_taken code settings state (entry ∷ entries) = rows_taken code settings (after code settings state entry) entries
 
@@ -43,10 +44,3 @@ inserted new (r ∷ rows) = if nat_le new.g r.g then new ∷ r ∷ rows else r �
 abbrev pub sorted : List Row → List Row
 sorted [] = []
 sorted (r ∷ rows) = inserted r (sorted rows)
-
--- An example: rows that were taken in the order 2, 0, 1 are sorted by number.
-abbrev bare : ℕ → Row
-bare g = record { g = g; stack = []; set = 0 }
-
-sorted_rows : sorted (bare 2 ∷ bare 0 ∷ bare 1 ∷ []) ≡ bare 0 ∷ bare 1 ∷ bare 2 ∷ []
-sorted_rows = refl

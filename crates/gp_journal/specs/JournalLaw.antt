@@ -1,6 +1,8 @@
 -- The journal law: what epochs say, and what stands still while a profile is active.
 use Rattle.std.specs.Prelude.{◌≡◌, ◌⊎◌, ◌+◌, ◌<◌, ℕ, Bool, true, false, List, [], ◌∷◌, ◌++◌, length}
+use Rattle.gp_isa.specs.declared.frame.Frame.{Frame}
 use Rattle.gp_stack.specs.Goroutine.{stack_of}
+use Rattle.gp_journal.specs.declared.goroutine.Goroutine.{Goroutine}
 use Rattle.gp_journal.specs.declared.entry.Entry.{Entry}
 use Rattle.gp_journal.specs.declared.entry.Entry.TheVariants.{Open, Close}
 use Rattle.gp_journal.specs.declared.settings.Settings.{Settings}
@@ -21,10 +23,14 @@ pub record KeepsEpochs (state : State) : Type 0 where
   pub while_none : (g : ℕ) → state.active ≡ 0 → is_live (goroutine state g) ≡ true →
       (goroutine state g).epoch ≡ state.last_epoch
 
+-- the whole stack of a goroutine
+abbrev pub stack_at : Code → Goroutine → List Frame
+stack_at code g = stack_of (trace_of code g) g.count
+
 -- g stands in one state as in another: its count is the same, and so are its stack and its labels.
 pub record StandsAs (code : Code) (opened now : State) (g : ℕ) : Type 0 where
   pub same_count : (goroutine now g).count ≡ (goroutine opened g).count
-  pub same_stack : stack_of (trace_of code (goroutine now g)) (goroutine now g).count ≡ stack_of (trace_of code (goroutine opened g)) (goroutine opened g).count
+  pub same_stack : stack_at code (goroutine now g) ≡ stack_at code (goroutine opened g)
   pub same_labels : labels_at code (goroutine now g) ≡ labels_at code (goroutine opened g)
 
 -- whether entries have a Close
@@ -51,7 +57,8 @@ UnrecordedStand = (code : Code) (settings : Settings) (before : List Entry) (epo
 abbrev pub RowsAreFrozen : Type 0
 RowsAreFrozen = (code : Code) (settings : Settings) (before : List Entry) (epoch room : ℕ) (during : List Entry) →
     IsLegal code settings (before ++ Open epoch room ∷ during) → has_close during ≡ true →
-    sorted (rows_taken code settings (last code settings (before ++ Open epoch room ∷ [])) during) ≡ frozen code (last code settings before)
+    let opened = before ++ Open epoch room ∷ [] in
+    sorted (rows_taken code settings (last code settings opened) during) ≡ frozen code (last code settings before)
 
 -- From the Open of a profile on, up to its Close, the rows taken so far and the goroutines that have still to be
 -- recorded are together as many as were live at the Open.
@@ -60,4 +67,5 @@ UnrecordedAddUp = (code : Code) (settings : Settings) (before : List Entry) (epo
     let opened = before ++ Open epoch room ∷ [] in
     let journal = before ++ Open epoch room ∷ during in
     IsLegal code settings journal → has_close during ≡ false →
-    length (rows_taken code settings (last code settings opened) during) + unrecorded (last code settings journal) ≡ live (last code settings before)
+    let taken = length (rows_taken code settings (last code settings opened) during) in
+    taken + unrecorded (last code settings journal) ≡ live (last code settings before)

@@ -11,7 +11,8 @@ use Rattle.gp_journal.specs.Effect.{after}
 -- entries are legal one after another, from a state on
 abbrev pub AreLegal : Code → Settings → State → List Entry → Type 0
 AreLegal code settings state [] = Unit {0}
-AreLegal code settings state (entry ∷ entries) = May code settings state entry × AreLegal code settings (after code settings state entry) entries
+AreLegal code settings state (entry ∷ entries) =
+    May code settings state entry × AreLegal code settings (after code settings state entry) entries
 
 -- the state after entries, from a state on
 abbrev pub after_all : Code → Settings → State → List Entry → State

@@ -130,7 +130,16 @@ unrecorded state = number_behind state.active state.goroutines
 
 -- The goroutine that runs `main`: runnable, with no points passed and the empty label set 0.
 abbrev pub main_goroutine : Code → Goroutine
-main_goroutine code = record { start = code.main; set = 0; count = 0; status = Runnable; granted = false; epoch = 0; blocked = 0; woken = 0 }
+main_goroutine code = record {
+  start = code.main;
+  set = 0;
+  count = 0;
+  status = Runnable;
+  granted = false;
+  epoch = 0;
+  blocked = 0;
+  woken = 0;
+}
 
 -- The first state: goroutine 0 is born, to run `main`, and nothing has happened.
 abbrev pub first : Code → Settings → State

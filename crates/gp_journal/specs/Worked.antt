@@ -15,12 +15,12 @@ use Rattle.gp_journal.specs.declared.settings.Request.{Request}
 use Rattle.gp_journal.specs.declared.settings.Request.TheVariants.{Clock, End}
 use Rattle.gp_journal.specs.declared.settings.Settings.{Settings}
 use Rattle.gp_journal.specs.State.{Code, first}
-use Rattle.gp_journal.specs.Due.{ended}
+use Rattle.gp_journal.specs.Due.{ended, has_come}
 use Rattle.gp_journal.specs.declared.answer.Applied.TheVariants as answer
 use Rattle.gp_journal.specs.declared.answer.Applied.TheVariants.{Blocked}
 use Rattle.gp_journal.specs.Told.{Told, says, told_from, done_of, made_of, nothing, over_now, passed_it, passed_last, bore, woke, waited}
 use Rattle.gp_journal.specs.Run.{IsLegal, IsFinished, last, at}
-use Rattle.gp_journal.specs.Frozen.{frozen, rows_taken}
+use Rattle.gp_journal.specs.Frozen.{frozen, rows_taken, sorted}
 
 abbrev pub statement : ℕ → What → Stmt
 statement line what = roll-Stmt (record { line = line; what = what })
@@ -59,7 +59,8 @@ shown g function line = record { g = g; stack = record { function = function; li
 
 -- A finished journal, with how its run ended, what is told after each entry, by worker the instructions that it has
 -- run, and by actor how many entries it made.
-pub record Worked (code : Code) (settings : Settings) (journal : List Entry) (end : Ended) (told : List Told) (done made : List ℕ) : Type 0 where
+pub record Worked (code : Code) (settings : Settings) (journal : List Entry) (end : Ended) (told : List Told)
+    (done made : List ℕ) : Type 0 where
   pub finished : IsFinished code settings journal
   pub its_end : ended (last code settings journal) ≡ end
   pub its_told : told_from code settings (first code settings) journal ≡ told
@@ -106,8 +107,12 @@ pub record SmallestProgram (code : Code) : Type 0 where
 -- chan c 0; func main { spawn f, work 1000, send c, work 5 }; func f { recv c, work 7 }
 abbrev pub wake : Parts
 wake = with_channels (record { name = codes "c"; line = 1; capacity = 0 } ∷ [])
-    (main_function 2 7 (statement 3 (what.Spawn 1) ∷ statement 4 (what.Work 1000) ∷ statement 5 (what.Send 0) ∷ statement 6 (what.Work 5) ∷ [])
-    ∷ other_function 8 11 (statement 9 (what.Recv 0) ∷ statement 10 (what.Work 7) ∷ []) ∷ [])
+    (
+    main_function 2 7 (
+    statement 3 (what.Spawn 1) ∷ statement 4 (what.Work 1000) ∷ statement 5 (what.Send 0) ∷ statement 6 (what.Work 5) ∷ []
+    )
+    ∷ other_function 8 11 (statement 9 (what.Recv 0) ∷ statement 10 (what.Work 7) ∷ []) ∷ []
+    )
 
 abbrev pub wake_settings : Settings
 wake_settings = plain (Clock 1001 ∷ [])
@@ -142,14 +147,18 @@ wake_told =
 pub record WokenBetween (code : Code) : Type 0 where
   pub journal : Worked code wake_settings wake_journal Main wake_told (1007 ∷ []) (13 ∷ 3 ∷ [])
   pub rows : frozen_at code wake_settings wake_journal 9 ≡ shown 0 0 5 ∷ shown 1 1 9 ∷ []
-  pub taken : rows_taken code wake_settings (at code wake_settings wake_journal 10) (Record 0 0 ∷ Start 0 0 ∷ Op 0 0 ∷ Record 1 1 ∷ Close 1 ∷ []) ≡ shown 0 0 5 ∷ shown 1 1 9 ∷ []
+  pub taken : rows_taken code wake_settings (at code wake_settings wake_journal 10)
+      (Record 0 0 ∷ Start 0 0 ∷ Op 0 0 ∷ Record 1 1 ∷ Close 1 ∷ []) ≡ shown 0 0 5 ∷ shown 1 1 9 ∷ []
   -- not legal: a Start before the Record; a Run of one point too many before the quantum
   pub no_start : EndsThere code wake_settings wake_opening (Start 0 0)
   pub no_more_points : EndsThere code wake_settings (Start 0 0 ∷ Op 0 0 ∷ []) (Run 0 0 1000)
 
 -- func main { spawn f, work 5 }; func f { work 2 }
 abbrev pub pair : Parts
-pair = program_of (main_function 1 4 (statement 2 (what.Spawn 1) ∷ statement 3 (what.Work 5) ∷ []) ∷ other_function 5 7 (statement 6 (what.Work 2) ∷ []) ∷ [])
+pair = program_of (
+    main_function 1 4 (statement 2 (what.Spawn 1) ∷ statement 3 (what.Work 5) ∷ [])
+    ∷ other_function 5 7 (statement 6 (what.Work 2) ∷ []) ∷ []
+    )
 
 abbrev pub pair_settings : ℕ → Settings
 pair_settings given = record (plain (Clock 1 ∷ [])) { room = given }
@@ -169,7 +178,9 @@ refused_told =
     says over_now 8 2 0 0 0 0 ∷ []
 
 abbrev pub profiled_journal : List Entry
-profiled_journal = Start 0 0 ∷ Op 0 0 ∷ Park 0 0 ∷ Open 1 2 ∷ Record 1 0 ∷ Record 1 1 ∷ Close 1 ∷ Start 0 1 ∷ Run 0 1 2 ∷ Start 0 0 ∷ Run 0 0 5 ∷ []
+profiled_journal =
+    Start 0 0 ∷ Op 0 0 ∷ Park 0 0 ∷ Open 1 2 ∷ Record 1 0 ∷ Record 1 1 ∷ Close 1 ∷ Start 0 1 ∷ Run 0 1 2 ∷ Start 0 0 ∷
+    Run 0 0 5 ∷ []
 
 abbrev pub profiled_told : List Told
 profiled_told =
@@ -190,7 +201,9 @@ abbrev pub two_workers : Settings
 two_workers = record (plain (Clock 1 ∷ [])) { workers = 2 }
 
 abbrev pub side_by_side : List Entry
-side_by_side = Start 0 0 ∷ Op 0 0 ∷ Park 0 0 ∷ Open 1 1024 ∷ Record 0 0 ∷ Start 0 0 ∷ Record 1 1 ∷ Start 1 1 ∷ Run 1 1 2 ∷ Close 1 ∷ Run 0 0 5 ∷ []
+side_by_side =
+    Start 0 0 ∷ Op 0 0 ∷ Park 0 0 ∷ Open 1 1024 ∷ Record 0 0 ∷ Start 0 0 ∷ Record 1 1 ∷ Start 1 1 ∷ Run 1 1 2 ∷
+    Close 1 ∷ Run 0 0 5 ∷ []
 
 abbrev pub parallel_told : List Told
 parallel_told =
@@ -224,8 +237,12 @@ pub record RoomForTwo (code : Code) : Type 0 where
 abbrev pub contended : Parts
 contended = record {
   functions =
-      main_function 3 11 (statement 4 (what.Spawn 1) ∷ statement 5 (what.Spawn 1) ∷ statement 6 (what.Lock 0) ∷ statement 7 (what.Work 1002) ∷ statement 8 (what.Unlock 0) ∷ statement 9 (what.Recv 0) ∷ statement 10 (what.Recv 0) ∷ [])
-      ∷ other_function 12 16 (statement 13 (what.Lock 0) ∷ statement 14 (what.Unlock 0) ∷ statement 15 (what.Send 0) ∷ []) ∷ [];
+      main_function 3 11 (
+      statement 4 (what.Spawn 1) ∷ statement 5 (what.Spawn 1) ∷ statement 6 (what.Lock 0) ∷ statement 7 (what.Work 1002)
+      ∷ statement 8 (what.Unlock 0) ∷ statement 9 (what.Recv 0) ∷ statement 10 (what.Recv 0) ∷ []
+      )
+      ∷ other_function 12 16 (statement 13 (what.Lock 0) ∷ statement 14 (what.Unlock 0) ∷ statement 15 (what.Send 0) ∷ [])
+      ∷ [];
   channels = record { name = codes "d"; line = 2; capacity = 2 } ∷ [];
   mutexes = record { name = codes "m"; line = 1 } ∷ [];
   labels = [];
@@ -233,7 +250,8 @@ contended = record {
 
 abbrev pub contended_journal : List Entry
 contended_journal =
-    Start 0 0 ∷ Op 0 0 ∷ Op 0 0 ∷ Op 0 0 ∷ Run 0 0 997 ∷ Park 0 0 ∷ Start 0 1 ∷ Op 0 1 ∷ Start 0 2 ∷ Op 0 2 ∷ Start 0 0 ∷ Run 0 0 5 ∷ Op 0 0 ∷ Op 0 0 ∷
+    Start 0 0 ∷ Op 0 0 ∷ Op 0 0 ∷ Op 0 0 ∷ Run 0 0 997 ∷ Park 0 0 ∷ Start 0 1 ∷ Op 0 1 ∷ Start 0 2 ∷ Op 0 2 ∷
+    Start 0 0 ∷ Run 0 0 5 ∷ Op 0 0 ∷ Op 0 0 ∷
     Start 0 1 ∷ Op 0 1 ∷ Op 0 1 ∷ Op 0 1 ∷ Start 0 2 ∷ Op 0 2 ∷ Op 0 2 ∷ Op 0 2 ∷ Start 0 0 ∷ Op 0 0 ∷ Op 0 0 ∷ []
 
 abbrev pub contended_told : List Told
@@ -270,7 +288,10 @@ pub record ContendedMutex (code : Code) : Type 0 where
 -- chan c 0; func main { spawn f, recv c }; func f { recv c }
 abbrev pub deadlocked : Parts
 deadlocked = with_channels (record { name = codes "c"; line = 1; capacity = 0 } ∷ [])
-    (main_function 2 5 (statement 3 (what.Spawn 1) ∷ statement 4 (what.Recv 0) ∷ []) ∷ other_function 6 8 (statement 7 (what.Recv 0) ∷ []) ∷ [])
+    (
+    main_function 2 5 (statement 3 (what.Spawn 1) ∷ statement 4 (what.Recv 0) ∷ [])
+    ∷ other_function 6 8 (statement 7 (what.Recv 0) ∷ []) ∷ []
+    )
 
 abbrev pub deadlock_journal : List Entry
 deadlock_journal = Start 0 0 ∷ Op 0 0 ∷ Op 0 0 ∷ Start 0 1 ∷ Op 0 1 ∷ Open 1 1024 ∷ Record 1 0 ∷ Record 1 1 ∷ Close 1 ∷ []
@@ -337,7 +358,9 @@ abbrev pub ticking : Settings
 ticking = record (plain []) { hz = 1000000 }
 
 abbrev pub tick_journal : List Entry
-tick_journal = Start 0 0 ∷ Run 0 0 1 ∷ Tick 0 0 ∷ Run 0 0 1 ∷ Tick 0 0 ∷ Run 0 0 1 ∷ Tick 0 0 ∷ Run 0 0 1 ∷ Tick 0 0 ∷ Run 0 0 1 ∷ Tick 0 0 ∷ Run 0 0 1 ∷ []
+tick_journal =
+    Start 0 0 ∷ Run 0 0 1 ∷ Tick 0 0 ∷ Run 0 0 1 ∷ Tick 0 0 ∷ Run 0 0 1 ∷ Tick 0 0 ∷ Run 0 0 1 ∷ Tick 0 0 ∷
+    Run 0 0 1 ∷ Tick 0 0 ∷ Run 0 0 1 ∷ []
 
 abbrev pub tick_told : List Told
 tick_told =
@@ -364,7 +387,8 @@ long = program_of (main_function 1 3 (statement 2 (what.Work 20000) ∷ []) ∷ 
 
 abbrev pub full_journal : List Entry
 full_journal =
-    Start 0 0 ∷ Run 0 0 1000 ∷ Park 0 0 ∷ Start 0 0 ∷ Run 0 0 1000 ∷ Park 0 0 ∷ Start 0 0 ∷ Run 0 0 1000 ∷ Park 0 0 ∷ Start 0 0 ∷ Run 0 0 1000 ∷ Park 0 0 ∷
+    Start 0 0 ∷ Run 0 0 1000 ∷ Park 0 0 ∷ Start 0 0 ∷ Run 0 0 1000 ∷ Park 0 0 ∷ Start 0 0 ∷ Run 0 0 1000 ∷ Park 0 0 ∷
+    Start 0 0 ∷ Run 0 0 1000 ∷ Park 0 0 ∷
     Start 0 0 ∷ Run 0 0 1000 ∷ Park 0 0 ∷ Start 0 0 ∷ Park 0 0 ∷ Open 1 1024 ∷ Record 1 0 ∷ Close 1 ∷ []
 
 abbrev pub full_told : List Told
@@ -397,3 +421,15 @@ pub record FullJournal (code : Code) : Type 0 where
   pub journal : Worked code full_settings full_journal Full full_told (5000 ∷ []) (17 ∷ 3 ∷ [])
   pub rows : frozen_at code full_settings full_journal 17 ≡ shown 0 0 2 ∷ []
   pub no_start : EndsThere code full_settings (take 17 full_journal) (Start 0 0)
+
+-- the row of a goroutine with no frame
+abbrev bare : ℕ → Row
+bare g = record { g = g; stack = []; set = 0 }
+
+-- Small examples: an instant at the clock has come, one above it hasn't, and the end never comes by the clock; rows
+-- that were taken in the order 2, 0, 1 are sorted by number.
+pub record SmallExamples : Type 0 where
+  pub come : has_come 5 (Clock 5) ≡ true
+  pub to_come : has_come 5 (Clock 6) ≡ false
+  pub never_by_clock : has_come 5 End ≡ false
+  pub sorted_rows : sorted (bare 2 ∷ bare 0 ∷ bare 1 ∷ []) ≡ bare 0 ∷ bare 1 ∷ bare 2 ∷ []

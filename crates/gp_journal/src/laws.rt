@@ -1,11 +1,15 @@
 ghost use Rattle.gp_journal.specs.State.{code_of};
 ghost use Rattle.gp_journal.specs.JournalLaw.{EpochsHold, UnrecordedStand, RowsAreFrozen, UnrecordedAddUp};
-ghost use Rattle.gp_journal.specs.RunLaws.{PrefixesAreLegal, BornInOrder, StatusesMatchWorkers, QueueHoldsRunnable, EachWaitsOnce, WaitListsTellClocks, RefuseLeavesAll, RunsEndOneWay};
+ghost use Rattle.gp_journal.specs.RunLaws.{PrefixesAreLegal, BornInOrder, StatusesMatchWorkers};
+ghost use Rattle.gp_journal.specs.RunLaws.{QueueHoldsRunnable, EachWaitsOnce, WaitListsTellClocks};
+ghost use Rattle.gp_journal.specs.RunLaws.{RefuseLeavesAll, RunsEndOneWay};
 ghost use Rattle.gp_journal.specs.NumberLaws.{EntriesAreCounted, NumbersHold, EntriesAreBounded, ClocksAreBelow, EpochsAreOrdered};
 ghost use Rattle.gp_journal.specs.ProfilesLaw.{RecordsGrow, RecordsAreCounted, RecordsAreFrozen};
 ghost use Rattle.gp_journal.specs.RecordsNamed.{RecordsAreThere};
 ghost use Rattle.gp_journal.specs.StepLaws.{OthersStay, EpochsStay, QueueAfter, OverStays, NothingAfterComplete};
-ghost use Rattle.gp_journal.specs.Worked.{SmallestProgram, smallest, WokenBetween, wake, RoomForTwo, pair, ContendedMutex, contended, Deadlocks, deadlocked, FaultOfUnlock, faulty, Ticks, six, FullJournal, long};
+ghost use Rattle.gp_journal.specs.Worked.{SmallExamples, SmallestProgram, smallest, WokenBetween, wake, RoomForTwo, pair};
+ghost use Rattle.gp_journal.specs.Worked.{ContendedMutex, contended, Deadlocks, deadlocked, FaultOfUnlock};
+ghost use Rattle.gp_journal.specs.Worked.{faulty, Ticks, six, FullJournal, long};
 
 /// The journal law, of every legal journal of every program: what epochs say at each step, that goroutines which
 /// have still to be recorded stand where they stood as the profile was opened, a wake included, and that the rows
@@ -70,4 +74,5 @@ pub fn law_worked()
     ensures fault { FaultOfUnlock (code_of faulty) }
     ensures ticks { Ticks (code_of six) }
     ensures full { FullJournal (code_of long) }
+    ensures examples { SmallExamples }
 {}

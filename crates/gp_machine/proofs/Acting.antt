@@ -21,7 +21,8 @@ use Rattle.gp_journal.specs.State.{Code, State, code_of, resting, goroutine, cha
 use Rattle.gp_journal.specs.Due.{next_instruction}
 use Rattle.gp_journal.specs.Effect.{waiter, acts, operates, is_last_point, Outcome, Meets, Spawns, outcome_at, comes_to, spawned}
 use Rattle.gp_journal.specs.Answer.{told, op_answer, operation_answer}
-use Rattle.gp_journal.proofs.Lemmas.{with_wait_lists, seats, IsWhole, live_within, live_status, one_if_eq, Balances, blocked_by, send_moves, recv_moves, lock_moves, unlock_moves, HasPlaces, last_has_places, is_whole, holds_runnable, absent_unless, has_come, is_kept, clock_fits, next_named}
+use Rattle.gp_journal.proofs.Lemmas.{with_wait_lists, seats, IsWhole, live_within, live_status, one_if_eq, Balances, blocked_by, send_moves, recv_moves, lock_moves, unlock_moves, HasPlaces, last_has_places, is_whole}
+use Rattle.gp_journal.proofs.Lemmas.{holds_runnable, absent_unless, has_come, is_kept, clock_fits, next_named}
 use Rattle.gp_journal.specs.Reached.{IsReached, Runs}
 use Rattle.gp_machine.specs.kept.Present.{CanCount, CanMeet, CanWake}
 use Rattle.gp_journal.specs.Standing.{times}

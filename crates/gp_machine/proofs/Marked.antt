@@ -1,5 +1,6 @@
 -- Counts and marks of a list after one of its places is changed, or one is added.
-use Rattle.std.proofs.Common.{◌≡◌, ◌⊎◌, ℕ, ◌+◌, ◌<◌, ◌≤◌, Bool, false, cond, List, [], ◌∷◌, ◌++◌, length, get_or, set, count_by, Some, None, position, refl, sym, ap, ◌∙◌, subst, inl, inr, arith, true≢false, length-set, get_or-set_same, get_or-set_other}
+use Rattle.std.proofs.Common.{◌≡◌, ◌⊎◌, ℕ, ◌+◌, ◌<◌, ◌≤◌, Bool, false, cond, List, [], ◌∷◌, ◌++◌, length, get_or, set, count_by, Some, None, position, refl, sym, ap, ◌∙◌, subst, inl, inr, arith, true≢false, length-set}
+use Rattle.std.proofs.Common.{get_or-set_same, get_or-set_other}
 use Rattle.std.specs.List.{position_or_len}
 use Rattle.std.proofs.lemmas.Bool.{cases_eq, cases_lt, lt-ltb, le-ltb}
 use Rattle.std.proofs.lemmas.List.{get_or_past, get_or_push, get_or_append_left, length_push}
@@ -16,7 +17,8 @@ pub count_push : {X : Type 0} (p : X → Bool) (xs : List X) (y : X) → count_b
 count_push p xs y = sum_by_push (λ x. one_if (p x)) xs y
 
 -- A list of marks says of each place whether it passes a test.
-pub marks_set : {X : Type 0} (p : X → Bool) (d : X) (marks : List Bool) (xs : List X) (i : ℕ) (y : X) → i < length xs → i < length marks → ((k : ℕ) → get_or marks k false ≡ p (get_or xs k d)) → (k : ℕ) → get_or (set marks i (p y)) k false ≡ p (get_or (set xs i y) k d)
+pub marks_set : {X : Type 0} (p : X → Bool) (d : X) (marks : List Bool) (xs : List X) (i : ℕ) (y : X) → i < length xs → i < length marks → ((k : ℕ) → get_or marks k false ≡ p (get_or xs k d)) →
+    (k : ℕ) → get_or (set marks i (p y)) k false ≡ p (get_or (set xs i y) k d)
 marks_set p d marks xs i y within room old =
     replaced_within (λ n x. get_or (set marks i (p y)) n false ≡ p x) d xs i y within (get_or-set_same marks i (p y) false room)
     (λ n other. get_or-set_other marks i n (p y) false other ∙ old n)
@@ -28,11 +30,13 @@ push_other d xs y k other = at (cases_lt k (length xs))
     at (inl within) = get_or_append_left xs (y ∷ []) d k within
     at (inr past) = get_or_past (xs ++ y ∷ []) k d (omega (arith, length_push xs y)) ∙ sym (get_or_past xs k d past)
 
-pub marks_push : {X : Type 0} (p : X → Bool) (d : X) (marks : List Bool) (xs : List X) (y : X) → length xs < length marks → ((k : ℕ) → get_or marks k false ≡ p (get_or xs k d)) → (k : ℕ) → get_or (set marks (length xs) (p y)) k false ≡ p (get_or (xs ++ y ∷ []) k d)
+pub marks_push : {X : Type 0} (p : X → Bool) (d : X) (marks : List Bool) (xs : List X) (y : X) → length xs < length marks → ((k : ℕ) → get_or marks k false ≡ p (get_or xs k d)) → (k : ℕ) →
+    get_or (set marks (length xs) (p y)) k false ≡ p (get_or (xs ++ y ∷ []) k d)
 marks_push p d marks xs y room old k = at (cases_eq k (length xs))
   where
     at : (k ≡ length xs) ⊎ (k ≡ length xs → ⊥) → get_or (set marks (length xs) (p y)) k false ≡ p (get_or (xs ++ y ∷ []) k d)
-    at (inl same) = subst (λ n. get_or (set marks (length xs) (p y)) n false ≡ p (get_or (xs ++ y ∷ []) n d)) (sym same) (get_or-set_same marks (length xs) (p y) false room ∙ ap p (sym (get_or_push xs y d (length xs) refl)))
+    at (inl same) = subst (λ n. get_or (set marks (length xs) (p y)) n false ≡ p (get_or (xs ++ y ∷ []) n d)) (sym same)
+        (get_or-set_same marks (length xs) (p y) false room ∙ ap p (sym (get_or_push xs y d (length xs) refl)))
     at (inr other) = get_or-set_other marks (length xs) k (p y) false other ∙ old k ∙ ap p (sym (push_other d xs y k other))
 
 found : {X : Type 0} (p : X → Bool) (xs : List X) (i : ℕ) → position_or_len p xs ≡ i → i < length xs → position p xs ≡ Some i
@@ -58,11 +62,13 @@ same_position p d marks xs none same = at (cases_lt (position_or_len p xs) (leng
     at : (first < length xs) ⊎ (length xs ≤ first) → position (λ b. b) marks ≡ position p xs
     at (inl within) =
         found (λ b. b) marks first
-        (position_or_len_is (λ b. b) marks first false (let room = marked within in omega arith) (λ k before. same k ∙ fails_before_first p xs k d before) (λ room. same first ∙ passes_at_first p xs d within))
+        (position_or_len_is (λ b. b) marks first false (let room = marked within in omega arith) (λ k before. same k ∙ fails_before_first p xs k d before)
+        (λ room. same first ∙ passes_at_first p xs d within))
         (marked within)
         ∙ sym (found p xs first refl within)
     at (inr past) =
-        let whole : position_or_len (λ b. b) marks ≡ length marks = position_or_len_is (λ b. b) marks (length marks) false (omega arith) (λ k before. same k ∙ fails k (cases_lt k (length xs))) (λ room. absurd (omega arith)) in
+        let whole : position_or_len (λ b. b) marks ≡ length marks = position_or_len_is (λ b. b) marks (length marks) false (omega arith) (λ k before. same k ∙ fails k (cases_lt k (length xs)))
+        (λ room. absurd (omega arith)) in
         missing (λ b. b) marks (omega arith) ∙ sym (missing p xs past)
       where
         fails : (k : ℕ) → (k < length xs) ⊎ (length xs ≤ k) → p (get_or xs k d) ≡ false
@@ -70,17 +76,20 @@ same_position p d marks xs none same = at (cases_lt (position_or_len p xs) (leng
         fails k (inr beyond) = ap p (get_or_past xs k d beyond) ∙ none
 
 -- where a number was moved by the answers of a test
-same_move : (p : Goroutine → Bool) (old new : Goroutine) (was is : Bool) (count now : ℕ) → was ≡ p old → is ≡ p new → now + one_if was ≡ count + one_if is → now + one_if (p old) ≡ count + one_if (p new)
+same_move : (p : Goroutine → Bool) (old new : Goroutine) (was is : Bool) (count now : ℕ) → was ≡ p old → is ≡ p new → now + one_if was ≡ count + one_if is →
+    now + one_if (p old) ≡ count + one_if (p new)
 same_move p old new was is count now was_is is_is moved = let a = ap one_if was_is in let b = ap one_if is_is in omega arith
 
 -- A number of some kind, once one of them is changed, or one is added.
-pub number_set : (p : Goroutine → Bool) (all : List Goroutine) (count now g : ℕ) (old new : Goroutine) (was is : Bool) → g < length all → count ≡ count_by p all → old ≡ get_or all g nobody → was ≡ p old → is ≡ p new → now + one_if was ≡ count + one_if is → now ≡ count_by p (set all g new)
+pub number_set : (p : Goroutine → Bool) (all : List Goroutine) (count now g : ℕ) (old new : Goroutine) (was is : Bool) → g < length all → count ≡ count_by p all → old ≡ get_or all g nobody →
+    was ≡ p old → is ≡ p new → now + one_if was ≡ count + one_if is → now ≡ count_by p (set all g new)
 number_set p all count now g old new was is within count_is old_is was_is is_is moved =
     let a = same_move p old new was is count now was_is is_is moved in
     let b = count_set p nobody all g new within in
     let c = ap (λ x. one_if (p x)) old_is in omega arith
 
-pub number_push : (p : Goroutine → Bool) (all : List Goroutine) (count now : ℕ) (new : Goroutine) (is : Bool) → count ≡ count_by p all → is ≡ p new → now + one_if false ≡ count + one_if is → now ≡ count_by p (all ++ new ∷ [])
+pub number_push : (p : Goroutine → Bool) (all : List Goroutine) (count now : ℕ) (new : Goroutine) (is : Bool) → count ≡ count_by p all → is ≡ p new → now + one_if false ≡ count + one_if is →
+    now ≡ count_by p (all ++ new ∷ [])
 number_push p all count now new is count_is is_is moved = let a = ap one_if is_is in let b = count_push p all new in omega arith
 
 -- Which of them are marked, of so many as there are cells.
@@ -88,7 +97,8 @@ pub record AreMarked (p : Goroutine → Bool) (cells : ℕ) (all : List Goroutin
   pub long : length marks ≡ cells
   pub same : (g : ℕ) → get_or marks g false ≡ p (get_or all g nobody)
 
-pub marked_set : (p : Goroutine → Bool) (cells : ℕ) (all : List Goroutine) (marks marks' : List Bool) (g : ℕ) (new : Goroutine) (is : Bool) → AreMarked p cells all marks → g < length all → length all ≤ cells → is ≡ p new → marks' ≡ set marks g is → AreMarked p cells (set all g new) marks'
+pub marked_set : (p : Goroutine → Bool) (cells : ℕ) (all : List Goroutine) (marks marks' : List Bool) (g : ℕ) (new : Goroutine) (is : Bool) → AreMarked p cells all marks → g < length all →
+    length all ≤ cells → is ≡ p new → marks' ≡ set marks g is → AreMarked p cells (set all g new) marks'
 marked_set p cells all marks marks' g new is marked within born is_is marks_are =
     let e : marks' ≡ set marks g (p new) = marks_are ∙ ap (set marks g) is_is in
     let long = marked.long in
@@ -97,7 +107,8 @@ marked_set p cells all marks marks' g new is marked within born is_is marks_are 
       same = λ k. ap (λ l. get_or l k false) e ∙ marks_set p nobody marks all g new within (omega arith) marked.same k;
     }
 
-pub marked_push : (p : Goroutine → Bool) (cells : ℕ) (all : List Goroutine) (marks marks' : List Bool) (g : ℕ) (new : Goroutine) (is : Bool) → AreMarked p cells all marks → g ≡ length all → length all < cells → is ≡ p new → marks' ≡ set marks g is → AreMarked p cells (all ++ new ∷ []) marks'
+pub marked_push : (p : Goroutine → Bool) (cells : ℕ) (all : List Goroutine) (marks marks' : List Bool) (g : ℕ) (new : Goroutine) (is : Bool) → AreMarked p cells all marks → g ≡ length all →
+    length all < cells → is ≡ p new → marks' ≡ set marks g is → AreMarked p cells (all ++ new ∷ []) marks'
 marked_push p cells all marks marks' g new is marked last room is_is marks_are =
     let e : marks' ≡ set marks (length all) (p new) = marks_are ∙ ap (λ n. set marks n is) last ∙ ap (set marks (length all)) is_is in
     let long = marked.long in

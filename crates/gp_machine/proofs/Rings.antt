@@ -76,7 +76,8 @@ record IsPushed (next : List ℕ) (prev : List ℕ) (next' : List ℕ) (prev' : 
   pub back : get_or prev' g 0 ≡ get_or prev end 0
   pub last : get_or prev' end 0 ≡ g
 
-leads_pushed : (next prev next' prev' : List ℕ) (a : ℕ) (items : List ℕ) (end g : ℕ) → IsPushed next prev next' prev' end g → Leads next prev a items end → a ≢ g → times g items ≡ 0 → times end items ≡ 0 → Leads next' prev' a (items ++ g ∷ []) end
+leads_pushed : (next prev next' prev' : List ℕ) (a : ℕ) (items : List ℕ) (end g : ℕ) → IsPushed next prev next' prev' end g → Leads next prev a items end → a ≢ g → times g items ≡ 0 →
+    times end items ≡ 0 → Leads next' prev' a (items ++ g ∷ []) end
 leads_pushed next prev next' prev' a [] end g made leads other none inner =
     let to : get_or next' a 0 ≡ g = ap (λ (k : ℕ). get_or next' k 0) (sym leads.before) ∙ made.to in
     (record { behind = to; before = made.back ∙ leads.before }, record { behind = made.on; before = made.last })
@@ -104,7 +105,11 @@ module _ (next prev next' prev' : List ℕ) (end g : ℕ) (made : IsFronted next
       record { behind = made.links a not_end not_g ∙ leads.behind; before = made.backs end outer past ∙ leads.before }
   behind_stay a (x ∷ rest) leads not_end not_g inner none apart past =
       let x_g = other_than x g rest none in
-      let near : AreNeighbours next' prev' a x = record { behind = made.links a not_end not_g ∙ leads.0.behind; before = made.backs x x_g (other_than x (get_or next end 0) rest apart) ∙ leads.0.before } in
+      let near : AreNeighbours next' prev' a x = record {
+        behind = made.links a not_end not_g ∙ leads.0.behind;
+        before = made.backs x x_g (other_than x (get_or next end 0) rest apart)
+            ∙ leads.0.before;
+      } in
       let later = behind_stay x rest leads.1 (other_than x end rest inner) x_g (omega (arith, inner, times-cons end x rest))
       (omega (arith, none, times-cons g x rest)) (omega (arith, apart, times-cons (get_or next end 0) x rest)) past in
       (near, later)
@@ -176,7 +181,8 @@ module _ (next prev next' prev' : List ℕ) (end g : ℕ) (made : IsLeft next pr
       elim (cases_eq x g) [ inl same ↦ here same | inr different ↦ later different ]
 
 -- links that lead round through different goroutines stand for them
-ring_of : (next prev : List ℕ) (end len : ℕ) (items : List ℕ) → length next ≡ end + 1 → length prev ≡ end + 1 → Leads next prev end items end → len ≡ length items → ((k : ℕ) → times k items ≤ 1) → ((k : ℕ) → end ≤ k → times k items ≡ 0) → IsRing next prev end len × (items_of next end len ≡ items)
+ring_of : (next prev : List ℕ) (end len : ℕ) (items : List ℕ) → length next ≡ end + 1 → length prev ≡ end + 1 → Leads next prev end items end → len ≡ length items → ((k : ℕ) → times k items ≤ 1) →
+    ((k : ℕ) → end ≤ k → times k items ≡ 0) → IsRing next prev end len × (items_of next end len ≡ items)
 ring_of next prev end len items nexts prevs leads count once within =
     let same : items_of next end len ≡ items = ap (items_of next end) count ∙ walked_is next prev end items end leads in
     let back = sym same in (
@@ -243,7 +249,8 @@ module _ (next prev : List ℕ) (end len : ℕ) (ring : IsRing next prev end len
     room =
         omega (arith, length-of_different end (items ++ g ∷ []) once_pushed within_pushed, length_push items g, length-items)
 
-    pub ring_pushed : IsRing (set (set next (get_or prev end 0) g) g end) (set (set prev g (get_or prev end 0)) end g) end (len + 1) × (items_of (set (set next (get_or prev end 0) g) g end) end (len + 1) ≡ items_of next end len ++ g ∷ [])
+    pub ring_pushed : IsRing (set (set next (get_or prev end 0) g) g end) (set (set prev g (get_or prev end 0)) end g) end (len + 1) ×
+        (items_of (set (set next (get_or prev end 0) g) g end) end (len + 1) ≡ items_of next end len ++ g ∷ [])
     ring_pushed =
         ring_of next' prev' end (len + 1) (items ++ g ∷ [])
         (omega (arith, length-set (set next tail g) g end, length-set next tail g, ring.nexts))
@@ -305,7 +312,8 @@ module _ (next prev : List ℕ) (end len : ℕ) (ring : IsRing next prev end len
       back = get_or-set_same prev behind before 0 (omega (arith, behind_within, ring.prevs));
     }
 
-    pub ring_left : IsRing (set next (get_or prev g 0) (get_or next g 0)) (set prev (get_or next g 0) (get_or prev g 0)) end (len - 1) × (items_of (set next (get_or prev g 0) (get_or next g 0)) end (len - 1) ≡ without g (items_of next end len))
+    pub ring_left : IsRing (set next (get_or prev g 0) (get_or next g 0)) (set prev (get_or next g 0) (get_or prev g 0)) end (len - 1) ×
+        (items_of (set next (get_or prev g 0) (get_or next g 0)) end (len - 1) ≡ without g (items_of next end len))
     ring_left =
         ring_of (set next before behind) (set prev behind before) end (len - 1) (without g items)
         (omega (arith, length-set next before behind, ring.nexts))

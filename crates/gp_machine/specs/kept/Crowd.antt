@@ -20,7 +20,8 @@ abbrev pub one_if : Bool → ℕ
 one_if b = if b then 1 else 0
 
 -- The numbers and marks are those of the goroutines.
-pub record AreCounted (cells room : ℕ) (all : List Goroutine) (active live running runnable : ℕ) (recorded unrecorded : List Bool) : Type 0 where
+pub record AreCounted (cells room : ℕ) (all : List Goroutine) (active live running runnable : ℕ)
+    (recorded unrecorded : List Bool) : Type 0 where
   pub reserved : cells ≤ room
   pub few : cells ≤ most_cells
   pub born : length all ≤ cells

@@ -1,4 +1,4 @@
-use Rattle.gp_journal.proofs.Journals.{smallest_program, woken_between, room_for_two, contended_mutex, deadlocks, fault_of_unlock, ticks, full_journal_is}
+use Rattle.gp_journal.proofs.Journals.{smallest_program, woken_between, room_for_two, contended_mutex, deadlocks, fault_of_unlock, ticks, full_journal_is, small_examples}
 use Rattle.gp_journal.proofs.laws.law_worked.Goals as goal
 
 pub returns-clause-smallest : goal.returns-clause-smallest
@@ -24,3 +24,6 @@ returns-clause-ticks c = ticks
 
 pub returns-clause-full : goal.returns-clause-full
 returns-clause-full c = full_journal_is
+
+pub returns-clause-examples : goal.returns-clause-examples
+returns-clause-examples c = small_examples

@@ -16,9 +16,12 @@ invariant_of-self c =
     let last : c.len-g.result ≡ length all = search rules in
     let were_behind : AreMarked (is_behind inside.active) inside.cells all inside.unrecorded = record { long = counted.unrecorded_marks; same = counted.behind } in
     let were_settled : AreMarked (is_settled inside.active) inside.cells all inside.recorded = record { long = counted.recorded_marks; same = counted.settled } in
-    let behind = marked_push (is_behind inside.active) inside.cells all inside.unrecorded c.mark.new.ids c.len-g.result c.args.new c.is_behind.result were_behind last room c.is_behind.ensures c.mark.ensures in
-    let settled = marked_push (is_settled inside.active) inside.cells all inside.recorded c.mark-2.new.ids c.len-g.result c.args.new c.is_settled.result were_settled last room c.is_settled.ensures c.mark-2.ensures in
-    let more : AreCounted inside.cells (vec_capacity c.push.new.self) (all ++ c.args.new ∷ []) inside.active c.moved-self-inside.result c.moved-self-inside-2.result c.moved-self-inside-3.result c.mark-2.new.ids c.mark.new.ids =
+    let behind = marked_push (is_behind inside.active) inside.cells all inside.unrecorded c.mark.new.ids c.len-g.result c.args.new c.is_behind.result were_behind last room c.is_behind.ensures
+    c.mark.ensures in
+    let settled = marked_push (is_settled inside.active) inside.cells all inside.recorded c.mark-2.new.ids c.len-g.result c.args.new c.is_settled.result were_settled last room c.is_settled.ensures
+    c.mark-2.ensures in
+    let more : AreCounted inside.cells (vec_capacity c.push.new.self) (all ++ c.args.new ∷ []) inside.active c.moved-self-inside.result c.moved-self-inside-2.result c.moved-self-inside-3.result
+    c.mark-2.new.ids c.mark.new.ids =
     record {
       reserved = let reserved = counted.reserved in let kept = c.in-Ok.ensures.capacity in omega arith;
       few = counted.few;
@@ -31,4 +34,5 @@ invariant_of-self c =
       behind = behind.same;
       settled = settled.same;
     } in
-    subst (λ (items : List Goroutine). AreCounted inside.cells (vec_capacity c.push.new.self) items inside.active c.moved-self-inside.result c.moved-self-inside-2.result c.moved-self-inside-3.result c.mark-2.new.ids c.mark.new.ids) (sym c.in-Ok.ensures.items) more
+    subst (λ (items : List Goroutine). AreCounted inside.cells (vec_capacity c.push.new.self) items inside.active c.moved-self-inside.result c.moved-self-inside-2.result c.moved-self-inside-3.result
+    c.mark-2.new.ids c.mark.new.ids) (sym c.in-Ok.ensures.items) more

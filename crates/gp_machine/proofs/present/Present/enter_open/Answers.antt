@@ -9,4 +9,5 @@ pub opens-requires-clause-none : goal.opens-requires-clause-none
 opens-requires-clause-none g c = rw c.serves.ensures (none_active g.R.Run.settings c.args.self.now c.requires.may.is_asked)
 
 pub opens-requires-clause-before : goal.opens-requires-clause-before
-opens-requires-clause-before g c = rw c.serves.ensures (epochs_below (code_of g.R.Run.program) g.R.Run.settings c.args.self.now c.requires.reached (none_active g.R.Run.settings c.args.self.now c.requires.may.is_asked) c.args.epoch c.requires.may.next_epoch)
+opens-requires-clause-before g c = rw c.serves.ensures (epochs_below (code_of g.R.Run.program) g.R.Run.settings c.args.self.now c.requires.reached
+    (none_active g.R.Run.settings c.args.self.now c.requires.may.is_asked) c.args.epoch c.requires.may.next_epoch)

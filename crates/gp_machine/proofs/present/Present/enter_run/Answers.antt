@@ -11,4 +11,5 @@ pub passes-requires-clause-born : goal.passes-requires-clause-born
 passes-requires-clause-born g c = (runs_there (code_of g.R.Run.program) g.R.Run.settings c.args.self.now c.requires.reached c.is_in_range.ensures c.args.w c.args.g c.requires.may.runs).is_born
 
 pub passes-requires-clause-room : goal.passes-requires-clause-room
-passes-requires-clause-room g c = can_count g.R.Run.program g.R.Run.settings c.args.self.now c.requires.reached c.is_in_range.ensures c.args.w c.args.g c.args.n (let few = run_extent (code_of g.R.Run.program) g.R.Run.settings c.args.self.now c.args.w c.args.g c.args.n c.requires.may.is_next in omega arith)
+passes-requires-clause-room g c = can_count g.R.Run.program g.R.Run.settings c.args.self.now c.requires.reached c.is_in_range.ensures c.args.w c.args.g c.args.n
+    (let few = run_extent (code_of g.R.Run.program) g.R.Run.settings c.args.self.now c.args.w c.args.g c.args.n c.requires.may.is_next in omega arith)

@@ -9,7 +9,8 @@ pub starts-requires-clause-born : goal.starts-requires-clause-born
 starts-requires-clause-born g c = runnable_born (code_of g.R.Run.program) g.R.Run.settings c.args.self.now c.requires.reached c.args.g c.requires.may.runnable
 
 pub starts-requires-clause-cell : goal.starts-requires-clause-cell
-starts-requires-clause-cell g c = born_cell (code_of g.R.Run.program) g.R.Run.settings c.args.self.now c.requires.reached c.is_in_range.ensures c.args.g (runnable_born (code_of g.R.Run.program) g.R.Run.settings c.args.self.now c.requires.reached c.args.g c.requires.may.runnable)
+starts-requires-clause-cell g c = born_cell (code_of g.R.Run.program) g.R.Run.settings c.args.self.now c.requires.reached c.is_in_range.ensures c.args.g
+    (runnable_born (code_of g.R.Run.program) g.R.Run.settings c.args.self.now c.requires.reached c.args.g c.requires.may.runnable)
 
 pub starts-requires-clause-once : goal.starts-requires-clause-once
 starts-requires-clause-once g c = runnable_once (code_of g.R.Run.program) g.R.Run.settings c.args.self.now c.requires.reached c.args.g c.requires.may.runnable

@@ -25,10 +25,14 @@ invariant_of-self c =
     let ring = c.self.invariant in
     let tail = get_or_read inside.prev.items inside.end c.index-tail.result.now (omega (arith, ring.prevs)) c.index-tail.ensures 0 in
     let next = written inside.next c.deref_mut.result.now c.join.new.next c.index-tail.result.now c.args.g c.join.ensures.next c.deref_mut.ensures.value c.deref_mut.ensures.len in
-    let next' = written (with_items inside.next c.join.new.next) c.deref_mut-3.result.now c.join-2.new.next c.args.g inside.end c.join-2.ensures.next c.deref_mut-3.ensures.value c.deref_mut-3.ensures.len in
+    let next' = written (with_items inside.next c.join.new.next) c.deref_mut-3.result.now c.join-2.new.next c.args.g inside.end c.join-2.ensures.next c.deref_mut-3.ensures.value
+    c.deref_mut-3.ensures.len in
     let prev = written inside.prev c.deref_mut-2.result.now c.join.new.prev c.args.g c.index-tail.result.now c.join.ensures.prev c.deref_mut-2.ensures.value c.deref_mut-2.ensures.len in
-    let prev' = written (with_items inside.prev c.join.new.prev) c.deref_mut-4.result.now c.join-2.new.prev inside.end c.args.g c.join-2.ensures.prev c.deref_mut-4.ensures.value c.deref_mut-4.ensures.len in
-    (pushed inside.next.items inside.prev.items inside.end inside.len ring c.args.self.now c.self.view_is c.args.g c.requires.within c.requires.absent c.index-tail.result.now (with_items inside.next c.join.new.next).items (with_items (with_items inside.next c.join.new.next) c.join-2.new.next).items (with_items inside.prev c.join.new.prev).items (with_items (with_items inside.prev c.join.new.prev) c.join-2.new.prev).items tail next next' prev prev').0
+    let prev' = written (with_items inside.prev c.join.new.prev) c.deref_mut-4.result.now c.join-2.new.prev inside.end c.args.g c.join-2.ensures.prev c.deref_mut-4.ensures.value
+    c.deref_mut-4.ensures.len in
+    (pushed inside.next.items inside.prev.items inside.end inside.len ring c.args.self.now c.self.view_is c.args.g c.requires.within c.requires.absent c.index-tail.result.now
+    (with_items inside.next c.join.new.next).items (with_items (with_items inside.next c.join.new.next) c.join-2.new.next).items (with_items inside.prev c.join.new.prev).items
+    (with_items (with_items inside.prev c.join.new.prev) c.join-2.new.prev).items tail next next' prev prev').0
 
 pub returns : goal.returns
 returns c =
@@ -36,7 +40,11 @@ returns c =
     let ring = c.self.invariant in
     let tail = get_or_read inside.prev.items inside.end c.index-tail.result.now (omega (arith, ring.prevs)) c.index-tail.ensures 0 in
     let next = written inside.next c.deref_mut.result.now c.join.new.next c.index-tail.result.now c.args.g c.join.ensures.next c.deref_mut.ensures.value c.deref_mut.ensures.len in
-    let next' = written (with_items inside.next c.join.new.next) c.deref_mut-3.result.now c.join-2.new.next c.args.g inside.end c.join-2.ensures.next c.deref_mut-3.ensures.value c.deref_mut-3.ensures.len in
+    let next' = written (with_items inside.next c.join.new.next) c.deref_mut-3.result.now c.join-2.new.next c.args.g inside.end c.join-2.ensures.next c.deref_mut-3.ensures.value
+    c.deref_mut-3.ensures.len in
     let prev = written inside.prev c.deref_mut-2.result.now c.join.new.prev c.args.g c.index-tail.result.now c.join.ensures.prev c.deref_mut-2.ensures.value c.deref_mut-2.ensures.len in
-    let prev' = written (with_items inside.prev c.join.new.prev) c.deref_mut-4.result.now c.join-2.new.prev inside.end c.args.g c.join-2.ensures.prev c.deref_mut-4.ensures.value c.deref_mut-4.ensures.len in
-    (pushed inside.next.items inside.prev.items inside.end inside.len ring c.args.self.now c.self.view_is c.args.g c.requires.within c.requires.absent c.index-tail.result.now (with_items inside.next c.join.new.next).items (with_items (with_items inside.next c.join.new.next) c.join-2.new.next).items (with_items inside.prev c.join.new.prev).items (with_items (with_items inside.prev c.join.new.prev) c.join-2.new.prev).items tail next next' prev prev').1
+    let prev' = written (with_items inside.prev c.join.new.prev) c.deref_mut-4.result.now c.join-2.new.prev inside.end c.args.g c.join-2.ensures.prev c.deref_mut-4.ensures.value
+    c.deref_mut-4.ensures.len in
+    (pushed inside.next.items inside.prev.items inside.end inside.len ring c.args.self.now c.self.view_is c.args.g c.requires.within c.requires.absent c.index-tail.result.now
+    (with_items inside.next c.join.new.next).items (with_items (with_items inside.next c.join.new.next) c.join-2.new.next).items (with_items inside.prev c.join.new.prev).items
+    (with_items (with_items inside.prev c.join.new.prev) c.join-2.new.prev).items tail next next' prev prev').1

@@ -32,8 +32,10 @@ invariant_of-self c =
     let before = get_or_read inside.prev.items c.args.g c.index-before.result.now (omega (arith, ring.prevs, cells)) c.index-before.ensures 0 in
     let behind = get_or_read inside.next.items c.args.g c.index-behind.result.now (omega (arith, ring.nexts, cells)) c.index-behind.ensures 0 in
     let next = written inside.next c.deref_mut.result.now c.join.new.next c.index-before.result.now c.index-behind.result.now c.join.ensures.next c.deref_mut.ensures.value c.deref_mut.ensures.len in
-    let prev = written inside.prev c.deref_mut-2.result.now c.join.new.prev c.index-behind.result.now c.index-before.result.now c.join.ensures.prev c.deref_mut-2.ensures.value c.deref_mut-2.ensures.len in
-    (left inside.next.items inside.prev.items inside.end inside.len ring c.args.self.now c.self.view_is c.args.g c.requires.within c.requires.once c.index-before.result.now c.index-behind.result.now (with_items inside.next c.join.new.next).items (with_items inside.prev c.join.new.prev).items before behind next prev).0
+    let prev = written inside.prev c.deref_mut-2.result.now c.join.new.prev c.index-behind.result.now c.index-before.result.now c.join.ensures.prev c.deref_mut-2.ensures.value
+    c.deref_mut-2.ensures.len in
+    (left inside.next.items inside.prev.items inside.end inside.len ring c.args.self.now c.self.view_is c.args.g c.requires.within c.requires.once c.index-before.result.now c.index-behind.result.now
+    (with_items inside.next c.join.new.next).items (with_items inside.prev c.join.new.prev).items before behind next prev).0
 
 pub returns : goal.returns
 returns c =
@@ -43,5 +45,7 @@ returns c =
     let before = get_or_read inside.prev.items c.args.g c.index-before.result.now (omega (arith, ring.prevs, cells)) c.index-before.ensures 0 in
     let behind = get_or_read inside.next.items c.args.g c.index-behind.result.now (omega (arith, ring.nexts, cells)) c.index-behind.ensures 0 in
     let next = written inside.next c.deref_mut.result.now c.join.new.next c.index-before.result.now c.index-behind.result.now c.join.ensures.next c.deref_mut.ensures.value c.deref_mut.ensures.len in
-    let prev = written inside.prev c.deref_mut-2.result.now c.join.new.prev c.index-behind.result.now c.index-before.result.now c.join.ensures.prev c.deref_mut-2.ensures.value c.deref_mut-2.ensures.len in
-    (left inside.next.items inside.prev.items inside.end inside.len ring c.args.self.now c.self.view_is c.args.g c.requires.within c.requires.once c.index-before.result.now c.index-behind.result.now (with_items inside.next c.join.new.next).items (with_items inside.prev c.join.new.prev).items before behind next prev).1
+    let prev = written inside.prev c.deref_mut-2.result.now c.join.new.prev c.index-behind.result.now c.index-before.result.now c.join.ensures.prev c.deref_mut-2.ensures.value
+    c.deref_mut-2.ensures.len in
+    (left inside.next.items inside.prev.items inside.end inside.len ring c.args.self.now c.self.view_is c.args.g c.requires.within c.requires.once c.index-before.result.now c.index-behind.result.now
+    (with_items inside.next c.join.new.next).items (with_items inside.prev c.join.new.prev).items before behind next prev).1
