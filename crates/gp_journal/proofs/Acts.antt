@@ -1,22 +1,23 @@
 -- What an Op can do and tell, as a list of cases, so that each law goes over them once.
-use Rattle.std.proofs.Common.{◌≡◌, ℕ, ◌<◌, ◌≤◌, Bool, true, false, List, set, refl, arith, if◌then◌else◌, nat_lt, Some, None}
+use Rattle.std.proofs.Common.{◌≡◌, ℕ, ◌<◌, ◌≤◌, Bool, true, false, List, refl, sym, subst, arith, if◌then◌else◌, nat_lt, Some, None}
 use Rattle.std.proofs.lemmas.Bool.{ltb-true}
-use Rattle.gp_isa.specs.Trace.{Instruction, Local, Labels, Send, Recv, Lock, Unlock, Spawn}
+use Rattle.gp_isa.specs.Trace.{Instruction}
+use Rattle.gp_stack.specs.Peek.{operation_of}
 use Rattle.gp_sync.specs.declared.effect.Effect.{Effect}
 use Rattle.gp_sync.specs.declared.effect.Effect.TheVariants.{Done, Blocks, Wakes, Fault}
-use Rattle.gp_sync.specs.Operations.{Channel, Mutex, send, recv, lock, unlock}
+use Rattle.gp_sync.specs.Operations.{Channel, Mutex}
 use Rattle.gp_journal.specs.declared.answer.Applied.{Applied}
 use Rattle.gp_journal.specs.declared.answer.Applied.TheVariants.{Plain, Passed, Born, Blocked as Waits, Fault as Faults}
 use Rattle.gp_journal.specs.declared.goroutine.Status.TheVariants.{Blocked}
 use Rattle.gp_journal.specs.declared.settings.Settings.{Settings}
-use Rattle.gp_journal.specs.State.{Code, State, goroutine, channel, mutex, births}
+use Rattle.gp_journal.specs.State.{Code, State, goroutine, births}
 use Rattle.gp_journal.specs.Due.{next_instruction}
-use Rattle.gp_journal.specs.Effect.{is_over_after, with_goroutine, unmarked, passes, blocks, faults, wakes, bears, meets, operates, resumes, waiter, acts}
-use Rattle.gp_journal.specs.Answer.{answer_to, operation_answer, op_answer, block_delay}
+use Rattle.gp_journal.specs.Effect.{is_over_after, with_goroutine, unmarked, passes, blocks, faults, wakes, bears, meets, Outcome, Meets, Spawns, Stays, outcome_of, comes_to, operates, resumes, acts}
+use Rattle.gp_journal.specs.Answer.{answer_to, told as answer_of, operation_answer, op_answer, block_delay}
 use Rattle.gp_sync.specs.Places.{places_of}
 use Rattle.gp_journal.proofs.Whole.{seats, IsWhole}
 use Rattle.gp_journal.proofs.Parts.{one_if_eq, Balances, with_wait_lists, blocked_by}
-use Rattle.gp_journal.proofs.WaitLists.{send_moves, recv_moves, lock_moves, unlock_moves}
+use Rattle.gp_journal.proofs.Outcomes.{MovesBy, moved_by}
 
 -- The state after an Op of g on w is one of these with its answer, whatever the wait lists are then. `died` tells
 -- that the trace of g ends with it.
@@ -51,23 +52,15 @@ module _ (code : Code) (settings : Settings) (w g : ℕ) (s : State) (Q : State 
   spawns_all function true e = told.bore function (ltb-true (births s) settings.cells e)
   spawns_all function false e = told.faulted 2 s.channels s.mutexes (omega arith)
 
+  comes_all : (outcome : Outcome) → MovesBy g s outcome → Q (comes_to code settings w g outcome s) (answer_of settings died outcome s)
+  comes_all (Meets unlocks effect left) moves =
+      subst (λ (t : State). Q (meets code settings w g effect t) (answer_to unlocks died effect)) (sym moves.alone) (meets_all unlocks left.channels left.mutexes effect moves.balance)
+  comes_all (Spawns function) moves = spawns_all function (nat_lt (births s) settings.cells) refl
+  comes_all Stays moves = told.stays
+
   operates_all : (instruction : Instruction) → Q (operates code settings w g instruction s) (operation_answer code settings g died instruction s)
   unfolding operates operation_answer
-  operates_all Local = told.stays
-  operates_all (Labels l) = told.stays
-  operates_all (Send c) =
-      let outcome = send (code.capacity c) (channel s c) (waiter s g) in
-      meets_all false (set s.channels c outcome.1) s.mutexes outcome.0 (λ k. send_moves s.channels s.mutexes (waiter s g) k c (code.capacity c))
-  operates_all (Recv c) =
-      let outcome = recv (channel s c) (waiter s g) in
-      meets_all false (set s.channels c outcome.1) s.mutexes outcome.0 (λ k. recv_moves s.channels s.mutexes (waiter s g) k c)
-  operates_all (Lock m) =
-      let outcome = lock (mutex s m) (waiter s g) in
-      meets_all false s.channels (set s.mutexes m outcome.1) outcome.0 (λ k. lock_moves s.channels s.mutexes (waiter s g) k m)
-  operates_all (Unlock m) =
-      let outcome = unlock (mutex s m) in
-      meets_all true s.channels (set s.mutexes m outcome.1) outcome.0 (λ k. unlock_moves s.channels s.mutexes (waiter s g) k m)
-  operates_all (Spawn function) = spawns_all function (nat_lt (births s) settings.cells) refl
+  operates_all instruction = comes_all (outcome_of code g (operation_of instruction) s) (moved_by code g (operation_of instruction) s)
 
   acts_at : (granted : Bool) →
       Q (if granted then resumes code settings w g s else operates code settings w g (next_instruction code s g) s)

@@ -37,6 +37,7 @@ pub use Rattle.gp_journal.proofs.Going.{GoesOn, op_goes, run_goes, run_extent}
 -- fewer for whom they wake.
 pub use Rattle.gp_journal.proofs.Parts.{one_if, one_if_eq, Balances, with_wait_lists, blocked_by, live_status}
 pub use Rattle.gp_journal.proofs.WaitLists.{send_moves, recv_moves, lock_moves, unlock_moves}
+pub use Rattle.gp_journal.proofs.Outcomes.{Moves, MovesBy, moved, moved_by}
 pub use Rattle.gp_journal.proofs.Whole.{seats, live_within, some_same}
 -- A program's channels and mutexes stay as many as they are, what a goroutine's next instruction names is one of them,
 -- and no effect counts its entry.

@@ -2,6 +2,7 @@ pub mod Places
 pub mod Whole
 pub mod Parts
 pub mod WaitLists
+pub mod Outcomes
 pub mod Steps
 pub mod Acts
 pub mod Rows

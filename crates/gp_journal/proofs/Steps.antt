@@ -1,22 +1,22 @@
 -- Each entry keeps a state whole.
 use Rattle.std.proofs.Common.{◌≡◌, ◌⊎◌, ℕ, ◌<◌, ◌≤◌, Bool, true, false, ◌==◌, length, get_or, set, Some, refl, sym, ◌∙◌, subst, inl, inr, arith, true≢false, if◌then◌else◌, nat_lt}
 use Rattle.std.proofs.lemmas.Bool.{and_parts, and_from, or_cases, lt-ltb, ltb-true, eqb-true}
-use Rattle.gp_isa.specs.Trace.{Instruction, Local, Labels, Send, Recv, Lock, Unlock, Spawn}
-use Rattle.gp_sync.specs.Operations.{send, recv, lock, unlock}
+use Rattle.gp_isa.specs.Trace.{Instruction}
+use Rattle.gp_stack.specs.Peek.{operation_of}
 use Rattle.gp_journal.specs.declared.entry.Entry.{Entry}
 use Rattle.gp_journal.specs.declared.entry.Entry.TheVariants.{Start, Run, Op, Tick, Park, Open, Refuse, Record, Close}
 use Rattle.gp_journal.specs.declared.goroutine.Goroutine.{Goroutine}
 use Rattle.gp_journal.specs.declared.goroutine.Status.TheVariants.{Runnable, Running, Faulted}
 use Rattle.gp_journal.specs.declared.settings.Settings.{Settings}
-use Rattle.gp_journal.specs.State.{Code, State, nobody, resting, goroutine, worker, channel, mutex, is_running, is_live, is_behind, births}
+use Rattle.gp_journal.specs.State.{Code, State, nobody, resting, goroutine, worker, is_running, is_live, is_behind, births}
 use Rattle.gp_journal.specs.Due.{asked, next_instruction}
 use Rattle.gp_journal.specs.May.{May, MayOpen, MayClose, is_recorded}
-use Rattle.gp_journal.specs.Effect.{turned, recorded, started, left, ticked, with_goroutine, starts, passes, faults, bears, operates, waiter, after}
+use Rattle.gp_journal.specs.Effect.{turned, recorded, started, left, ticked, with_goroutine, starts, passes, faults, bears, meets, Outcome, Meets, Spawns, Stays, outcome_of, comes_to, operates, after}
 use Rattle.gp_sync.specs.Places.{places_of}
 use Rattle.gp_journal.proofs.Places.{changed, replaced_within, none_counted}
 use Rattle.gp_journal.proofs.Whole.{seats, Behind, Fits, Whole, IsWhole, some_same, live_within, keeps_running, frees, gains}
 use Rattle.gp_journal.proofs.Parts.{live_status, running_last, off, passes_whole, resumes_whole, meets_whole}
-use Rattle.gp_journal.proofs.WaitLists.{send_moves, recv_moves, lock_moves, unlock_moves}
+use Rattle.gp_journal.proofs.Outcomes.{MovesBy, moved_by}
 
 -- a runnable goroutine begins to run
 pub starts_whole : (w g : ℕ) (s : State) → IsWhole s → (goroutine s g).status ≡ Runnable → is_recorded s g ≡ true → IsWhole (starts w g s)
@@ -54,23 +54,16 @@ spawns_whole : (code : Code) (settings : Settings) (w g function : ℕ) (s : Sta
 spawns_whole code settings w g function s whole runs true = passes_whole code settings w g 1 (bears code function g s) (bears_whole code function g s whole) runs
 spawns_whole code settings w g function s whole runs false = off s w g (turned Faulted (goroutine s g)) (left (worker s w)) whole runs refl refl
 
+comes_whole : (code : Code) (settings : Settings) (w g : ℕ) (s : State) → IsWhole s → (worker s w).runs ≡ Some g → (outcome : Outcome) → MovesBy g s outcome → IsWhole (comes_to code settings w g outcome s)
+comes_whole code settings w g s whole runs (Meets unlocks effect left) moves =
+    subst (λ (t : State). IsWhole (meets code settings w g effect t)) (sym moves.alone) (meets_whole code settings w g s left.channels left.mutexes whole runs effect moves.balance)
+comes_whole code settings w g s whole runs (Spawns function) moves = spawns_whole code settings w g function s whole runs (nat_lt (births s) settings.cells)
+comes_whole code settings w g s whole runs Stays moves = whole
+
 operates_whole : (code : Code) (settings : Settings) (w g : ℕ) (instruction : Instruction) (s : State) → IsWhole s → (worker s w).runs ≡ Some g → IsWhole (operates code settings w g instruction s)
 unfolding operates
-operates_whole code settings w g Local s whole runs = whole
-operates_whole code settings w g (Labels l) s whole runs = whole
-operates_whole code settings w g (Send c) s whole runs =
-    let outcome = send (code.capacity c) (channel s c) (waiter s g) in
-    meets_whole code settings w g s (set s.channels c outcome.1) s.mutexes whole runs outcome.0 (λ k. send_moves s.channels s.mutexes (waiter s g) k c (code.capacity c))
-operates_whole code settings w g (Recv c) s whole runs =
-    let outcome = recv (channel s c) (waiter s g) in
-    meets_whole code settings w g s (set s.channels c outcome.1) s.mutexes whole runs outcome.0 (λ k. recv_moves s.channels s.mutexes (waiter s g) k c)
-operates_whole code settings w g (Lock m) s whole runs =
-    let outcome = lock (mutex s m) (waiter s g) in
-    meets_whole code settings w g s s.channels (set s.mutexes m outcome.1) whole runs outcome.0 (λ k. lock_moves s.channels s.mutexes (waiter s g) k m)
-operates_whole code settings w g (Unlock m) s whole runs =
-    let outcome = unlock (mutex s m) in
-    meets_whole code settings w g s s.channels (set s.mutexes m outcome.1) whole runs outcome.0 (λ k. unlock_moves s.channels s.mutexes (waiter s g) k m)
-operates_whole code settings w g (Spawn function) s whole runs = spawns_whole code settings w g function s whole runs (nat_lt (births s) settings.cells)
+operates_whole code settings w g instruction s whole runs =
+    comes_whole code settings w g s whole runs (outcome_of code g (operation_of instruction) s) (moved_by code g (operation_of instruction) s)
 
 acts_whole : (code : Code) (settings : Settings) (w g : ℕ) (s : State) → IsWhole s → (worker s w).runs ≡ Some g → (granted : Bool) →
     IsWhole (if granted then passes code settings w g 1 (with_goroutine g (record (goroutine s g) { granted = false }) s) else operates code settings w g (next_instruction code s g) s)

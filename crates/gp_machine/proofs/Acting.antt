@@ -1,5 +1,5 @@
 -- What an Op needs where it is due, and what it does by its operation.
-use Rattle.std.proofs.Common.{◌≡◌, ℕ, ◌<◌, ◌≤◌, Bool, false, zero, suc, List, [], ◌∷◌, length, get_or, set, sum_by, Some, refl, sym, ap, ◌∙◌, subst, arith, if◌then◌else◌}
+use Rattle.std.proofs.Common.{◌≡◌, ℕ, ◌<◌, ◌≤◌, Bool, false, zero, suc, List, [], ◌∷◌, length, get_or, sum_by, Some, refl, sym, ap, ◌∙◌, subst, arith, if◌then◌else◌}
 use Rattle.std.proofs.lemmas.List.{get_or_past}
 use Rattle.std.proofs.lemmas.List.Sums.{sum_by-cons}
 use Rattle.gp_isa.specs.declared.parts.Parts.{Parts}
@@ -11,17 +11,17 @@ use Rattle.gp_stack.specs.declared.statement.Operation.{Operation}
 use Rattle.gp_stack.specs.declared.statement.Operation.TheVariants as operation
 use Rattle.gp_sync.specs.declared.effect.Effect.{Effect}
 use Rattle.gp_sync.specs.declared.effect.Effect.TheVariants.{Done, Blocks, Wakes, Fault}
-use Rattle.gp_sync.specs.Operations.{Channel, Mutex, send, recv, lock, unlock}
+use Rattle.gp_sync.specs.Operations.{Channel, Mutex}
 use Rattle.gp_sync.specs.Places.{places_of}
 use Rattle.gp_journal.specs.declared.goroutine.Goroutine.{Goroutine}
 use Rattle.gp_journal.specs.declared.goroutine.Worker.{Worker}
 use Rattle.gp_journal.specs.declared.settings.Settings.{Settings}
 use Rattle.gp_journal.specs.Settings.{AreInRange, quantum}
-use Rattle.gp_journal.specs.State.{Code, State, code_of, resting, goroutine, channel, mutex, births, nobody, is_runnable}
+use Rattle.gp_journal.specs.State.{Code, State, code_of, resting, goroutine, births, nobody, is_runnable}
 use Rattle.gp_journal.specs.Due.{next_instruction}
-use Rattle.gp_journal.specs.Effect.{waiter, acts, operates, is_last_point, Outcome, Meets, Spawns, outcome_at, comes_to, spawned}
+use Rattle.gp_journal.specs.Effect.{acts, operates, is_last_point, Outcome, Meets, Spawns, outcome_at, comes_to, spawned}
 use Rattle.gp_journal.specs.Answer.{told, op_answer, operation_answer}
-use Rattle.gp_journal.proofs.Lemmas.{with_wait_lists, seats, IsWhole, live_within, live_status, one_if_eq, Balances, blocked_by, send_moves, recv_moves, lock_moves, unlock_moves, HasPlaces, last_has_places, is_whole}
+use Rattle.gp_journal.proofs.Lemmas.{with_wait_lists, Moves, MovesBy, moved, seats, IsWhole, live_within, live_status, one_if_eq, Balances, blocked_by, HasPlaces, last_has_places, is_whole}
 use Rattle.gp_journal.proofs.Lemmas.{holds_runnable, absent_unless, has_come, is_kept, clock_fits, next_named}
 use Rattle.gp_journal.specs.Reached.{IsReached, Runs}
 use Rattle.gp_machine.specs.kept.Present.{CanCount, CanMeet, CanWake}
@@ -53,24 +53,6 @@ there_at program s made places (Recv c) there e = subst (HasPlace s) (some_is e)
 there_at program s made places (Lock m) there e = subst (HasPlace s) (some_is e) (let many = places.of_mutexes in omega (arith, there))
 there_at program s made places (Unlock m) there e = subst (HasPlace s) (some_is e) (let many = places.of_mutexes in omega (arith, there))
 there_at program s made places (Spawn f) there e = subst (HasPlace s) (some_is e) tt
-
--- the effect of an outcome, and the state that it is met in
-abbrev effect_of : Outcome → Effect
-effect_of (Meets contended effect left) = effect
-effect_of _ = Done
-
-abbrev left_of : State → Outcome → State
-left_of s (Meets contended effect left) = left
-left_of s _ = s
-
--- an operation leaves all but the wait lists
-lists_alone : (code : Code) (g : ℕ) (made : Operation) (s : State) →
-    let left = left_of s (outcome_at code g made s) in left ≡ with_wait_lists left.channels left.mutexes s
-lists_alone code g (operation.Send c) s = refl
-lists_alone code g (operation.Recv c) s = refl
-lists_alone code g (operation.Lock m) s = refl
-lists_alone code g (operation.Unlock m) s = refl
-lists_alone code g (operation.Spawn f) s = refl
 
 module _ (program : Parts) (settings : Settings) (s : State) (reached : IsReached (code_of program) settings s) (range : AreInRange settings) where
   code : Code
@@ -110,7 +92,7 @@ module _ (program : Parts) (settings : Settings) (s : State) (reached : IsReache
       }
 
   -- whom an effect wakes can be woken
-  meets_ready : (g : ℕ) (cs : List Channel) (ms : List Mutex) (effect : Effect) → ((k : ℕ) → Balances effect g k (places_of s.channels s.mutexes k) (places_of cs ms k)) → CanMeet settings s effect
+  pub meets_ready : (g : ℕ) (cs : List Channel) (ms : List Mutex) (effect : Effect) → ((k : ℕ) → Balances effect g k (places_of s.channels s.mutexes k) (places_of cs ms k)) → CanMeet settings s effect
   meets_ready g cs ms Done balance = tt
   meets_ready g cs ms Blocks balance = tt
   meets_ready g cs ms Fault balance = tt
@@ -120,22 +102,6 @@ module _ (program : Parts) (settings : Settings) (s : State) (reached : IsReache
       let seat : 1 ≤ seats (goroutine s h).status = let b = whole.waits h in omega arith in
       can_wake h (blocked_by (goroutine s h).status seat)
 
-  -- whom an operation wakes can be woken
-  made_ready : (g : ℕ) (made : Operation) → CanMeet settings s (effect_of (outcome_at (code_of program) g made s))
-  made_ready g (operation.Send c) =
-      let outcome = send ((code_of program).capacity c) (channel s c) (waiter s g) in
-      meets_ready g (set s.channels c outcome.1) s.mutexes outcome.0 (λ k. send_moves s.channels s.mutexes (waiter s g) k c ((code_of program).capacity c))
-  made_ready g (operation.Recv c) =
-      let outcome = recv (channel s c) (waiter s g) in
-      meets_ready g (set s.channels c outcome.1) s.mutexes outcome.0 (λ k. recv_moves s.channels s.mutexes (waiter s g) k c)
-  made_ready g (operation.Lock m) =
-      let outcome = lock (mutex s m) (waiter s g) in
-      meets_ready g s.channels (set s.mutexes m outcome.1) outcome.0 (λ k. lock_moves s.channels s.mutexes (waiter s g) k m)
-  made_ready g (operation.Unlock m) =
-      let outcome = unlock (mutex s m) in
-      meets_ready g s.channels (set s.mutexes m outcome.1) outcome.0 (λ k. unlock_moves s.channels s.mutexes (waiter s g) k m)
-  made_ready g (operation.Spawn f) = tt
-
   -- the next number stands in no queue
   pub next_absent : times (births s) s.queue ≡ 0
   next_absent = holds_runnable (code_of program) settings s reached (births s) ∙ ap (λ (x : Goroutine). if is_runnable x.status then 1 else 0) (get_or_past s.goroutines (births s) nobody (omega arith))
@@ -144,14 +110,14 @@ module _ (program : Parts) (settings : Settings) (s : State) (reached : IsReache
 -- and whom the effect wakes can be woken.
 module _ (program : Parts) (settings : Settings) (s : State) (reached : IsReached (code_of program) settings s) (range : AreInRange settings)
     (g : ℕ) (made : Operation) (contended : Bool) (effect : Effect) (left : State) (is : Meets contended effect left ≡ outcome_at (code_of program) g made s) where
-  left_is : left ≡ with_wait_lists left.channels left.mutexes s
-  left_is = let e = ap (left_of s) (sym is) in subst (λ (t : State). t ≡ with_wait_lists t.channels t.mutexes s) e (lists_alone (code_of program) g made s)
+  moves : Moves g s effect left
+  moves = subst (MovesBy g s) (sym is) (moved (code_of program) g made s)
 
   pub left_runs : (w : ℕ) → Runs settings s w g → Runs settings left w g
-  left_runs w runs = subst (λ t. Runs settings t w g) (sym left_is) (record { is_worker = runs.is_worker; is_born = runs.is_born; is_cell = runs.is_cell; status = runs.status })
+  left_runs w runs = subst (λ t. Runs settings t w g) (sym moves.alone) (record { is_worker = runs.is_worker; is_born = runs.is_born; is_cell = runs.is_cell; status = runs.status })
 
   pub left_counts : (w : ℕ) → CanCount s w g 1 → CanCount left w g 1
-  left_counts w can = subst (λ t. CanCount t w g 1) (sym left_is) (record { clock = can.clock; count = can.count; instructions = can.instructions; slice = can.slice })
+  left_counts w can = subst (λ t. CanCount t w g 1) (sym moves.alone) (record { clock = can.clock; count = can.count; instructions = can.instructions; slice = can.slice })
 
   wakes_there : (e : Effect) (cs : List Channel) (ms : List Mutex) → CanMeet settings s e → CanMeet settings (with_wait_lists cs ms s) e
   wakes_there Done cs ms can = tt
@@ -161,11 +127,11 @@ module _ (program : Parts) (settings : Settings) (s : State) (reached : IsReache
 
   pub left_ready : CanMeet settings left effect
   left_ready =
-      let can = subst (CanMeet settings s) (ap effect_of (sym is)) (made_ready program settings s reached range g made) in
-      subst (λ t. CanMeet settings t effect) (sym left_is) (wakes_there effect left.channels left.mutexes can)
+      let can = meets_ready program settings s reached range g left.channels left.mutexes effect moves.balance in
+      subst (λ t. CanMeet settings t effect) (sym moves.alone) (wakes_there effect left.channels left.mutexes can)
 
   pub left_lasts : is_last_point (code_of program) left g ≡ is_last_point (code_of program) s g
-  left_lasts = ap (λ t. is_last_point (code_of program) t g) left_is
+  left_lasts = ap (λ t. is_last_point (code_of program) t g) moves.alone
 
 -- What an Op does and answers where the point isn't granted.
 module _ (code : Code) (settings : Settings) (w g : ℕ) (s : State) (bare : (goroutine s g).granted ≡ false) (made : Operation) (is : operation_of (next_instruction code s g) ≡ Some made) where
