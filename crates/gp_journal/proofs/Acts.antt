@@ -17,7 +17,7 @@ use Rattle.gp_journal.specs.Answer.{answer_to, told as answer_of, operation_answ
 use Rattle.gp_sync.specs.Places.{places_of}
 use Rattle.gp_journal.proofs.Whole.{seats, IsWhole}
 use Rattle.gp_journal.proofs.Parts.{one_if_eq, Balances, with_wait_lists, blocked_by}
-use Rattle.gp_journal.proofs.Outcomes.{MovesBy, moved_by}
+use Rattle.gp_journal.proofs.Outcomes.{MovesBy, outcome_moves}
 
 -- The state after an Op of g on w is one of these with its answer, whatever the wait lists are then. `died` tells
 -- that the trace of g ends with it.
@@ -60,7 +60,7 @@ module _ (code : Code) (settings : Settings) (w g : ℕ) (s : State) (Q : State 
 
   operates_all : (instruction : Instruction) → Q (operates code settings w g instruction s) (operation_answer code settings g died instruction s)
   unfolding operates operation_answer
-  operates_all instruction = comes_all (outcome_of code g (operation_of instruction) s) (moved_by code g (operation_of instruction) s)
+  operates_all instruction = comes_all (outcome_of code g (operation_of instruction) s) (outcome_moves code g (operation_of instruction) s)
 
   acts_at : (granted : Bool) →
       Q (if granted then resumes code settings w g s else operates code settings w g (next_instruction code s g) s)

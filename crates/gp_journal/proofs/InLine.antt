@@ -1,20 +1,16 @@
 -- How often a goroutine stands in a line.
-use Rattle.std.proofs.Common.{◌≡◌, ◌≢◌, ℕ, ◌+◌, ◌<◌, ◌≤◌, Bool, true, false, not, cond, ◌==◌, List, [], ◌∷◌, ◌++◌, length, filter, refl, sym, inl, inr, arith, eq-eqb}
+use Rattle.std.proofs.Common.{◌≡◌, ◌≢◌, ℕ, ◌+◌, ◌<◌, ◌≤◌, Bool, true, false, not, cond, ◌==◌, List, [], ◌∷◌, ◌++◌, length, refl, sym, inl, inr, arith, eq-eqb}
 use Rattle.std.proofs.Math.Dec.{eqb}
 use Rattle.std.proofs.lemmas.Bool.{ne_eqb, cases_lt, both_ways}
 use Rattle.std.proofs.lemmas.Map.Steps.{length-le_from_distinct_below}
 use Rattle.std.specs.List.{AllByRecursion, IsDistinct, list_any}
 use Rattle.std.proofs.lemmas.List.Sums.{sum_by-cons, sum_by_push, length-filter}
 use Rattle.std.proofs.lemmas.List.Filters.{length-filter_both}
-use Rattle.gp_journal.specs.Standing.{times}
+use Rattle.gp_journal.specs.Standing.{times, without}
 
 -- a place of one goroutine, counted for another
 abbrev pub place : ℕ → ℕ → ℕ
 place g k = cond (g == k) 1 0
-
--- a line without a goroutine
-abbrev pub without : ℕ → List ℕ → List ℕ
-without g items = filter (λ other. not (other == g)) items
 
 pub times-cons : (k g : ℕ) (rest : List ℕ) → times k (g ∷ rest) ≡ place g k + times k rest
 times-cons k g rest = sum_by-cons (λ (other : ℕ). cond (other == k) 1 0) g rest

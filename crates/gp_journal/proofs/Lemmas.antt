@@ -37,7 +37,7 @@ pub use Rattle.gp_journal.proofs.Going.{GoesOn, op_goes, run_goes, run_extent}
 -- fewer for whom they wake.
 pub use Rattle.gp_journal.proofs.Parts.{one_if, one_if_eq, Balances, with_wait_lists, blocked_by, live_status}
 pub use Rattle.gp_journal.proofs.WaitLists.{send_moves, recv_moves, lock_moves, unlock_moves}
-pub use Rattle.gp_journal.proofs.Outcomes.{Moves, MovesBy, moved, moved_by}
+pub use Rattle.gp_journal.proofs.Outcomes.{Moves, MovesBy, operation_moves, outcome_moves}
 pub use Rattle.gp_journal.proofs.Whole.{seats, live_within, some_same}
 -- A program's channels and mutexes stay as many as they are, what a goroutine's next instruction names is one of them,
 -- and no effect counts its entry.
@@ -46,7 +46,7 @@ pub use Rattle.gp_journal.proofs.Naming.{next_named}
 -- What holds at each place of a list holds after one place is changed, or one is added.
 pub use Rattle.gp_journal.proofs.Places.{changed, pushed, replaced, replaced_within}
 -- How often a goroutine stands in a list, with one more at its head or its tail, and without one.
-pub use Rattle.gp_journal.proofs.InLine.{place, without, times-cons, times_push, one_at, none_at, other_than}
+pub use Rattle.gp_journal.proofs.InLine.{place, times-cons, times_push, one_at, none_at, other_than}
 pub use Rattle.gp_journal.proofs.InLine.{head_below, length-without, times_without, without_head, without_other, length-of_different}
 -- One legal entry more; what entries do to the active profile and to the last epoch.
 pub use Rattle.gp_journal.proofs.Recorded.{appended, OpensNone, keeps_last, opened_active, opened_last, recorded_active, closed_active}

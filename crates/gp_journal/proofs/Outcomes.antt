@@ -20,13 +20,13 @@ MovesBy g s (Meets unlocks effect left) = Moves g s effect left
 MovesBy g s (Spawns function) = Unit {0}
 MovesBy g s Stays = Unit {0}
 
-pub moved : (code : Code) (g : ℕ) (made : Operation) (s : State) → MovesBy g s (outcome_at code g made s)
-moved code g (operation.Send c) s = record { alone = refl; balance = λ k. send_moves s.channels s.mutexes (waiter s g) k c (code.capacity c) }
-moved code g (operation.Recv c) s = record { alone = refl; balance = λ k. recv_moves s.channels s.mutexes (waiter s g) k c }
-moved code g (operation.Lock m) s = record { alone = refl; balance = λ k. lock_moves s.channels s.mutexes (waiter s g) k m }
-moved code g (operation.Unlock m) s = record { alone = refl; balance = λ k. unlock_moves s.channels s.mutexes (waiter s g) k m }
-moved code g (operation.Spawn function) s = tt
+pub operation_moves : (code : Code) (g : ℕ) (made : Operation) (s : State) → MovesBy g s (outcome_at code g made s)
+operation_moves code g (operation.Send c) s = record { alone = refl; balance = λ k. send_moves s.channels s.mutexes (waiter s g) k c (code.capacity c) }
+operation_moves code g (operation.Recv c) s = record { alone = refl; balance = λ k. recv_moves s.channels s.mutexes (waiter s g) k c }
+operation_moves code g (operation.Lock m) s = record { alone = refl; balance = λ k. lock_moves s.channels s.mutexes (waiter s g) k m }
+operation_moves code g (operation.Unlock m) s = record { alone = refl; balance = λ k. unlock_moves s.channels s.mutexes (waiter s g) k m }
+operation_moves code g (operation.Spawn function) s = tt
 
-pub moved_by : (code : Code) (g : ℕ) (made : Option Operation) (s : State) → MovesBy g s (outcome_of code g made s)
-moved_by code g (Some made) s = moved code g made s
-moved_by code g None s = tt
+pub outcome_moves : (code : Code) (g : ℕ) (made : Option Operation) (s : State) → MovesBy g s (outcome_of code g made s)
+outcome_moves code g (Some made) s = operation_moves code g made s
+outcome_moves code g None s = tt

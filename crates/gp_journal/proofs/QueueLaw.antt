@@ -1,5 +1,5 @@
 -- The queue holds the runnable, each once.
-use Rattle.std.proofs.Common.{◌≡◌, ◌⊎◌, ℕ, ◌+◌, ◌<◌, Bool, true, false, not, ◌==◌, cond, List, [], ◌∷◌, ◌++◌, length, get_or, set, take, filter, count_by, Some, refl, sym, ap, ◌∙◌, subst, inl, inr, arith, zero, suc, if◌then◌else◌, get_or-set_other}
+use Rattle.std.proofs.Common.{◌≡◌, ◌⊎◌, ℕ, ◌+◌, ◌<◌, Bool, true, false, not, ◌==◌, cond, List, [], ◌∷◌, ◌++◌, length, get_or, set, take, Some, refl, sym, ap, ◌∙◌, subst, inl, inr, arith, zero, suc, if◌then◌else◌, get_or-set_other}
 use Rattle.std.proofs.lemmas.List.{get_or_past, get_or_push, get_or_append_left}
 use Rattle.std.proofs.lemmas.List.Sums.{sum_by-cons, sum_by_push}
 use Rattle.std.proofs.lemmas.Bool.{cases_eq, ne_eqb, eqb-true}
@@ -12,6 +12,7 @@ use Rattle.gp_journal.specs.State.{Code, State, nobody, goroutine, worker, is_ru
 use Rattle.gp_journal.specs.May.{May}
 use Rattle.gp_journal.specs.Effect.{turned, recorded, passed, is_over_after, unmarked, blocked_at, woken_at, child_of, acts, after}
 use Rattle.gp_journal.specs.Run.{AreLegal, IsLegal, after_all, last}
+use Rattle.gp_journal.specs.Standing.{times, without}
 use Rattle.gp_journal.specs.RunLaws.{HoldsRunnable, QueueHoldsRunnable}
 use Rattle.gp_journal.proofs.Places.{changed, pushed, replaced, replaced_within}
 use Rattle.gp_journal.proofs.Whole.{IsWhole, live_within}
@@ -19,10 +20,6 @@ use Rattle.gp_journal.proofs.Parts.{live_status, one_if, one_if_eq}
 use Rattle.gp_journal.proofs.Acts.{acts_all}
 use Rattle.gp_journal.proofs.Steps.{step_whole}
 use Rattle.gp_journal.proofs.Law.{first_whole, prefix_legal}
-
--- how often g stands in a queue
-abbrev times : ℕ → List ℕ → ℕ
-times g queue = count_by (λ other. other == g) queue
 
 -- A goroutine stands there as often as its status says.
 abbrev Stands : List ℕ → ℕ → Goroutine → Type 0
@@ -36,10 +33,6 @@ apart a b other = ap one_if (ne_eqb a b (λ e. other (sym e)))
 
 at_tail : (g h : ℕ) (queue : List ℕ) → times g (queue ++ h ∷ []) ≡ times g queue + one_if (h == g)
 at_tail g h queue = sum_by_push (λ other. cond (other == g) 1 0) queue h
-
--- the queue without g
-abbrev without : ℕ → List ℕ → List ℕ
-without g queue = filter (λ other. not (other == g)) queue
 
 gone : (g : ℕ) (queue : List ℕ) → times g (without g queue) ≡ 0
 gone g [] = refl

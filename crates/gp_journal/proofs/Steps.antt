@@ -16,7 +16,7 @@ use Rattle.gp_sync.specs.Places.{places_of}
 use Rattle.gp_journal.proofs.Places.{changed, replaced_within, none_counted}
 use Rattle.gp_journal.proofs.Whole.{seats, Behind, Fits, Whole, IsWhole, some_same, live_within, keeps_running, frees, gains}
 use Rattle.gp_journal.proofs.Parts.{live_status, running_last, off, passes_whole, resumes_whole, meets_whole}
-use Rattle.gp_journal.proofs.Outcomes.{MovesBy, moved_by}
+use Rattle.gp_journal.proofs.Outcomes.{MovesBy, outcome_moves}
 
 -- a runnable goroutine begins to run
 pub starts_whole : (w g : ℕ) (s : State) → IsWhole s → (goroutine s g).status ≡ Runnable → is_recorded s g ≡ true → IsWhole (starts w g s)
@@ -63,7 +63,7 @@ comes_whole code settings w g s whole runs Stays moves = whole
 operates_whole : (code : Code) (settings : Settings) (w g : ℕ) (instruction : Instruction) (s : State) → IsWhole s → (worker s w).runs ≡ Some g → IsWhole (operates code settings w g instruction s)
 unfolding operates
 operates_whole code settings w g instruction s whole runs =
-    comes_whole code settings w g s whole runs (outcome_of code g (operation_of instruction) s) (moved_by code g (operation_of instruction) s)
+    comes_whole code settings w g s whole runs (outcome_of code g (operation_of instruction) s) (outcome_moves code g (operation_of instruction) s)
 
 acts_whole : (code : Code) (settings : Settings) (w g : ℕ) (s : State) → IsWhole s → (worker s w).runs ≡ Some g → (granted : Bool) →
     IsWhole (if granted then passes code settings w g 1 (with_goroutine g (record (goroutine s g) { granted = false }) s) else operates code settings w g (next_instruction code s g) s)

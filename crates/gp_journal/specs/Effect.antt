@@ -1,5 +1,5 @@
 -- The effect of each entry. What an entry doesn't name stays.
-use Rattle.std.specs.Prelude.{◌+◌, ◌%◌, ℕ, Bool, true, false, not, ◌&&◌, ◌||◌, ◌==◌, [], ◌∷◌, ◌++◌, set, drop, filter, if◌then◌else◌, nat_lt, Option, Some, None}
+use Rattle.std.specs.Prelude.{◌+◌, ◌%◌, ℕ, Bool, true, false, not, ◌&&◌, ◌||◌, ◌==◌, [], ◌∷◌, ◌++◌, set, drop, if◌then◌else◌, nat_lt, Option, Some, None}
 use Rattle.gp_isa.specs.Trace.{Instruction}
 use Rattle.gp_stack.specs.declared.statement.Operation.{Operation}
 use Rattle.gp_stack.specs.declared.statement.Operation.TheVariants as operation
@@ -19,6 +19,7 @@ use Rattle.gp_journal.specs.declared.settings.Settings.{Settings}
 use Rattle.gp_journal.specs.Settings.{period}
 use Rattle.gp_journal.specs.State.{Code, State, goroutine, worker, channel, mutex, trace_of, births}
 use Rattle.gp_journal.specs.Due.{next_instruction}
+use Rattle.gp_journal.specs.Standing.{without}
 
 -- A goroutine with another status.
 abbrev pub turned : Status → Goroutine → Goroutine
@@ -101,7 +102,7 @@ queued g state = record state { queue = state.queue ++ g ∷ [] }
 
 -- g leaves the queue
 abbrev pub unqueued : ℕ → State → State
-unqueued g state = record state { queue = filter (λ other. not (other == g)) state.queue }
+unqueued g state = record state { queue = without g state.queue }
 
 -- w begins to run g
 abbrev pub starts : ℕ → ℕ → State → State

@@ -1,5 +1,5 @@
 -- Laws on what goroutines do in legal journals: on which worker they run, how they are born, wait and end.
-use Rattle.std.specs.Prelude.{◌≡◌, ◌⊎◌, ◌↔◌, ◌+◌, ◌≤◌, ◌<◌, ◌==◌, ℕ, true, false, if◌then◌else◌, Some, List, [], ◌∷◌, ◌++◌, take, drop, count_by}
+use Rattle.std.specs.Prelude.{◌≡◌, ◌⊎◌, ◌↔◌, ◌+◌, ◌≤◌, ◌<◌, ℕ, true, false, if◌then◌else◌, Some, List, [], ◌∷◌, ◌++◌, take, drop}
 use Rattle.gp_journal.specs.declared.entry.Entry.{Entry}
 use Rattle.gp_journal.specs.declared.entry.Entry.TheVariants.{Refuse}
 use Rattle.gp_journal.specs.declared.goroutine.Status.TheVariants.{Runnable, Running, Blocked}
@@ -9,6 +9,7 @@ use Rattle.gp_journal.specs.Due.{IsComplete}
 use Rattle.gp_journal.specs.Effect.{after}
 use Rattle.gp_journal.specs.Run.{IsLegal, last, at}
 use Rattle.gp_sync.specs.Places.{places_of}
+use Rattle.gp_journal.specs.Standing.{times}
 use Rattle.gp_journal.specs.Waiting.{WaitListsTell}
 
 -- A legal journal's prefix is legal.
@@ -38,7 +39,7 @@ StatusesMatchWorkers = (code : Code) (settings : Settings) (journal : List Entry
 
 -- The queue holds the runnable: each of them stands in it once, and nobody else does.
 abbrev pub HoldsRunnable : State → Type 0
-HoldsRunnable state = (g : ℕ) → count_by (λ other. other == g) state.queue ≡ (if is_runnable (goroutine state g).status then 1 else 0)
+HoldsRunnable state = (g : ℕ) → times g state.queue ≡ (if is_runnable (goroutine state g).status then 1 else 0)
 
 -- So it is at every step of a legal journal.
 abbrev pub QueueHoldsRunnable : Type 0

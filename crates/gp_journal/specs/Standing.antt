@@ -1,5 +1,5 @@
--- Who stands first: in the queue, and among those that have still to be recorded.
-use Rattle.std.specs.Prelude.{ℕ, ◌==◌, Option, Some, None, List, [], ◌∷◌, count_by, position}
+-- Who stands in the queue and how often, and who stands first: there, and among those that have still to be recorded.
+use Rattle.std.specs.Prelude.{ℕ, not, ◌==◌, Option, Some, None, List, [], ◌∷◌, filter, count_by, position}
 use Rattle.gp_journal.specs.declared.goroutine.Goroutine.{Goroutine}
 use Rattle.gp_journal.specs.State.{is_behind}
 
@@ -11,6 +11,10 @@ head_of (g ∷ rest) = Some g
 -- how often a goroutine stands in a list
 abbrev pub times : ℕ → List ℕ → ℕ
 times g items = count_by (λ other. other == g) items
+
+-- a list without a goroutine
+abbrev pub without : ℕ → List ℕ → List ℕ
+without g items = filter (λ other. not (other == g)) items
 
 -- the number of the first goroutine that has still to be recorded in the profile of an epoch
 abbrev pub first_behind : ℕ → List Goroutine → Option ℕ

@@ -1,11 +1,12 @@
 -- Laws on single entries of legal journals: what each leaves, and what it does to the queue.
-use Rattle.std.specs.Prelude.{◌≡◌, ◌==◌, ℕ, true, not, Some, List, [], ◌∷◌, ◌++◌, filter}
+use Rattle.std.specs.Prelude.{◌≡◌, ℕ, true, Some, List, [], ◌∷◌, ◌++◌}
 use Rattle.gp_journal.specs.declared.answer.Applied.{Applied}
 use Rattle.gp_journal.specs.declared.answer.Applied.TheVariants.{Passed, Born}
 use Rattle.gp_journal.specs.declared.entry.Entry.{Entry}
 use Rattle.gp_journal.specs.declared.entry.Entry.TheVariants.{Start, Park, Open, Close}
 use Rattle.gp_journal.specs.declared.settings.Settings.{Settings}
 use Rattle.gp_journal.specs.State.{Code, State, worker}
+use Rattle.gp_journal.specs.Standing.{without}
 use Rattle.gp_journal.specs.Due.{over, IsComplete}
 use Rattle.gp_journal.specs.Answer.{applied}
 use Rattle.gp_journal.specs.Run.{IsLegal, last}
@@ -39,7 +40,7 @@ EpochsStay = OfEachEntry (λ code settings before entry now. LeavesEpochs entry 
 
 -- the queue without the one that an entry starts
 abbrev pub remaining : Entry → List ℕ → List ℕ
-remaining (Start w g) queue = filter (λ other. not (other == g)) queue
+remaining (Start w g) queue = without g queue
 remaining entry queue = queue
 
 -- who joins the queue with an entry that is answered so: who is put back, whom it woke, or who was born

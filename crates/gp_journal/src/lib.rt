@@ -31,7 +31,8 @@
 //! keeps), `Due` (when a profile is asked for, when a run is over, what is due), `May` (the condition of each entry),
 //! `Effect` (what each entry does), `Answer` (what it tells), `Run` (legal journals), `Frozen` (the rows of a profile),
 //! `Waiting` (places in wait lists), `Standing` (who stands first), `Actors` (who makes each entry), `Reached` (states
-//! of legal journals). `JournalLaw`, `RunLaws`, `NumberLaws` and `StepLaws` say the laws, `Worked` has journals worked out by hand.
+//! of legal journals). `JournalLaw`, `RunLaws`, `NumberLaws` and `StepLaws` say the laws, `Worked` has journals worked out by
+//! hand, with what is told after each entry (`Told`).
 //!
 //! Promised, of every legal journal of every program (`law_journal`): while a profile is active a running goroutine has
 //! its epoch, and one that has still to be recorded stands where it stood at the Open, even where it was woken since;

@@ -21,7 +21,7 @@ use Rattle.gp_journal.specs.State.{Code, State, code_of, resting, goroutine, bir
 use Rattle.gp_journal.specs.Due.{next_instruction}
 use Rattle.gp_journal.specs.Effect.{acts, operates, is_last_point, Outcome, Meets, Spawns, outcome_at, comes_to, spawned}
 use Rattle.gp_journal.specs.Answer.{told, op_answer, operation_answer}
-use Rattle.gp_journal.proofs.Lemmas.{with_wait_lists, Moves, MovesBy, moved, seats, IsWhole, live_within, live_status, one_if_eq, Balances, blocked_by, HasPlaces, last_has_places, is_whole}
+use Rattle.gp_journal.proofs.Lemmas.{with_wait_lists, Moves, MovesBy, operation_moves, seats, IsWhole, live_within, live_status, one_if_eq, Balances, blocked_by, HasPlaces, last_has_places, is_whole}
 use Rattle.gp_journal.proofs.Lemmas.{holds_runnable, absent_unless, has_come, is_kept, clock_fits, next_named}
 use Rattle.gp_journal.specs.Reached.{IsReached, Runs}
 use Rattle.gp_machine.specs.kept.Present.{CanCount, CanMeet, CanWake}
@@ -111,7 +111,7 @@ module _ (program : Parts) (settings : Settings) (s : State) (reached : IsReache
 module _ (program : Parts) (settings : Settings) (s : State) (reached : IsReached (code_of program) settings s) (range : AreInRange settings)
     (g : ℕ) (made : Operation) (contended : Bool) (effect : Effect) (left : State) (is : Meets contended effect left ≡ outcome_at (code_of program) g made s) where
   moves : Moves g s effect left
-  moves = subst (MovesBy g s) (sym is) (moved (code_of program) g made s)
+  moves = subst (MovesBy g s) (sym is) (operation_moves (code_of program) g made s)
 
   pub left_runs : (w : ℕ) → Runs settings s w g → Runs settings left w g
   left_runs w runs = subst (λ t. Runs settings t w g) (sym moves.alone) (record { is_worker = runs.is_worker; is_born = runs.is_born; is_cell = runs.is_cell; status = runs.status })

@@ -1,9 +1,8 @@
 -- What a call leaves in the queue's fields, and which line that is.
 use Rattle.std.proofs.Common.{◌≡◌, ℕ, ◌+◌, ◌-◌, ◌<◌, ◌≤◌, List, [], ◌∷◌, ◌++◌, get_or, set, sym, ap, ◌∙◌, subst, arith}
 use Rattle.gp_machine.specs.Queue.{Line}
-use Rattle.gp_journal.specs.Standing.{times}
+use Rattle.gp_journal.specs.Standing.{times, without}
 use Rattle.gp_machine.specs.kept.Ring.{items_of, IsRing}
-use Rattle.gp_journal.proofs.Lemmas.{without}
 use Rattle.gp_machine.proofs.Rings.{room, ring_pushed, ring_fronted, before_within, behind_within, ring_left}
 
 -- the line that links stand for

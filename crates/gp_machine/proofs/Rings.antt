@@ -2,9 +2,9 @@
 use Rattle.std.proofs.Common.{◌≡◌, ◌≢◌, ℕ, zero, suc, ◌+◌, ◌-◌, ◌<◌, ◌≤◌, Some, List, [], ◌∷◌, ◌++◌, length, get_or, set, replicate, refl, sym, ap, ◌∙◌, subst, inl, inr, arith}
 use Rattle.std.proofs.lemmas.List.{get_or-set_same, get_or-set_other, length-set, length_push, get_or-replicate, length-replicate}
 use Rattle.std.proofs.lemmas.Bool.{cases_eq}
-use Rattle.gp_journal.specs.Standing.{head_of, times}
+use Rattle.gp_journal.specs.Standing.{head_of, times, without}
 use Rattle.gp_machine.specs.kept.Ring.{walked, items_of, AreNeighbours, Leads, IsRing}
-use Rattle.gp_journal.proofs.Lemmas.{head_below, without, times-cons, times_push, one_at, none_at, other_than, length-without, times_without, without_head, without_other, length-of_different}
+use Rattle.gp_journal.proofs.Lemmas.{head_below, times-cons, times_push, one_at, none_at, other_than, length-without, times_without, without_head, without_other, length-of_different}
 
 module _ (next prev : List ℕ) where
   -- links that lead through a line give it

@@ -1,6 +1,6 @@
-ghost use Rattle.std.specs.Prelude.{◌≡◌, ◌<◌, ◌≤◌, ◌==◌, not, [], ◌∷◌, ◌++◌, length, filter, count_by, slice_set, IfOk};
+ghost use Rattle.std.specs.Prelude.{◌≡◌, ◌<◌, ◌≤◌, [], ◌∷◌, ◌++◌, length, slice_set, IfOk};
 ghost use Rattle.gp_isa.specs.Limits.{most_cells};
-ghost use Rattle.gp_journal.specs.Standing.{head_of};
+ghost use Rattle.gp_journal.specs.Standing.{head_of, times, without};
 
 use gp_isa::Memory;
 use std::alloc::Global;
@@ -64,7 +64,7 @@ impl Queue {
     /// Lets goroutine g, which stands nowhere in the queue, stand at its tail.
     pub fn push_back(&mut self, g: u32)
         requires within { g < self.old.cells }
-        requires absent { count_by (λ other. other == g) self.old.items ≡ 0 }
+        requires absent { times g self.old.items ≡ 0 }
         ensures { self.new ≡ record self.old { items = self.old.items ++ g ∷ [] } }
     {
         let end = self.end;
@@ -77,7 +77,7 @@ impl Queue {
     /// Lets goroutine g, which stands nowhere in the queue, stand at its head.
     pub fn push_front(&mut self, g: u32)
         requires within { g < self.old.cells }
-        requires absent { count_by (λ other. other == g) self.old.items ≡ 0 }
+        requires absent { times g self.old.items ≡ 0 }
         ensures { self.new ≡ record self.old { items = g ∷ self.old.items } }
     {
         let end = self.end;
@@ -90,8 +90,8 @@ impl Queue {
     /// Takes goroutine g, wherever it stands, from the queue.
     pub fn remove(&mut self, g: u32)
         requires within { g < self.old.cells }
-        requires once { count_by (λ other. other == g) self.old.items ≡ 1 }
-        ensures { self.new ≡ record self.old { items = filter (λ other. not (other == g)) self.old.items } }
+        requires once { times g self.old.items ≡ 1 }
+        ensures { self.new ≡ record self.old { items = without g self.old.items } }
     {
         let before = self.prev[g as usize];
         let behind = self.next[g as usize];
