@@ -9,7 +9,7 @@ use Rattle.gp_isa.specs.declared.parts.Function.{Function}
 use Rattle.gp_isa.specs.declared.parts.Parts.{Parts}
 use Rattle.gp_isa.specs.declared.statement.Stmt.{Stmt}
 use Rattle.gp_isa.specs.declared.statement.What.TheOpen.{Work, Call, Loop, Send, Recv, Lock, Unlock, Spawn, Labels}
-use Rattle.gp_isa.specs.Statement.{Action, action_of, line_of}
+use Rattle.gp_isa.specs.Statement.{Action, action_of, line_of, most_bodies}
 use Rattle.gp_isa.specs.Trace.{Point, called_at, repeated, points_at, points_of_body, body_of, trace_within, trace}
 use Rattle.gp_isa.specs.Calls.{calls_of, calls_in, callees, reaches, is_recursive, first_from, first_recursive, TracesAreWhole, TracesFollowCalls}
 
@@ -49,7 +49,7 @@ module _ (calls calls' : ℕ → List Point) (f : ℕ) where
         (same_body body (λ h e. agrees h (in_back h (calls_of within (action_of s)) _ e)))
 
   same_points : (deep : ℕ) (body : List Stmt) → Agrees (calls_in deep body) → points_of_body calls f deep body ≡ points_of_body calls' f deep body
-  same_points zero body agrees = same_body (λ _. []) (λ _. []) (λ _. []) (λ b agree. refl) body agrees
+  same_points zero body agrees = refl
   same_points (suc deep) body agrees = same_body (points_of_body calls f deep) (points_of_body calls' f deep) (calls_in deep) (same_points deep) body agrees
 
 or_more : (a b c : Bool) → (b ≡ true → c ≡ true) → (a || b) ≡ true → (a || c) ≡ true
@@ -168,15 +168,15 @@ module _ (parts : Parts) (sound : first_recursive parts ≡ None) where
   -- where there is no such function there are no points
   no_points : (d f : ℕ) → count ≤ f → trace_within parts d f ≡ []
   unfolding trace_within
-  no_points zero f past = ap (points_of_body (λ _. []) f 8) (no_body f past)
-  no_points (suc d) f past = ap (points_of_body (trace_within parts d) f 8) (no_body f past)
+  no_points zero f past = ap (points_of_body (λ _. []) f most_bodies) (no_body f past)
+  no_points (suc d) f past = ap (points_of_body (trace_within parts d) f most_bodies) (no_body f past)
 
   deep_enough : (d e : ℕ) (vs : List ℕ) (f : ℕ) → Chain vs f → count ≤ d + length vs → d ≤ e → trace_within parts d f ≡ trace_within parts e f
   unfolding trace_within
   deep_enough zero e vs f chain enough le = let few = short vs f chain in absurd (omega arith)
   deep_enough (suc d) zero vs f chain enough le = absurd (omega arith)
   deep_enough (suc d) (suc e) vs f chain enough le =
-      same_points (trace_within parts d) (trace_within parts e) f 8 (body_of parts f)
+      same_points (trace_within parts d) (trace_within parts e) f most_bodies (body_of parts f)
       (λ h calls. by h calls (cases_lt h count) (deep_enough d e (f ∷ vs) h))
     where
       by : (h : ℕ) → In h (callees parts f) → (h < count) ⊎ (count ≤ h) → (Chain (f ∷ vs) h → count ≤ d + length (f ∷ vs) → d ≤ e → trace_within parts d h ≡ trace_within parts e h) → trace_within parts d h ≡ trace_within parts e h

@@ -2,7 +2,7 @@
 use Rattle.std.proofs.Common.{◌≡◌, ℕ, suc, Bool, true, false, ◌||◌, ◌==◌, List, [], ◌∷◌, Option, Some, refl, ap, ◌∙◌}
 use Rattle.std.specs.List.{list_any}
 use Rattle.gp_isa.specs.declared.parts.Parts.{Parts}
-use Rattle.gp_isa.specs.Statement.{action-work, action-call, action-loop, action-send, action-labels}
+use Rattle.gp_isa.proofs.Actions.{action-work, action-call, action-loop, action-send, action-labels}
 use Rattle.gp_isa.specs.Trace.{trace, trace_within}
 use Rattle.gp_isa.specs.Calls.{reaches, callees, first_from, is_recursive}
 use Rattle.gp_isa.specs.WorkedTraces.{looping, LoopOfACall, circular, FirstOfACircle}

@@ -3,7 +3,7 @@ use Rattle.std.proofs.Common.{ℕ, zero, suc, ◌+◌, ◌≤◌, List, [], ◌�
 use Rattle.gp_isa.specs.declared.parts.Parts.{Parts}
 use Rattle.gp_isa.specs.declared.statement.Stmt.{Stmt}
 use Rattle.gp_isa.specs.declared.statement.What.TheOpen.{Work, Call, Loop, Send, Recv, Lock, Unlock, Spawn, Labels}
-use Rattle.gp_isa.specs.Statement.{Action, action_of, line_of}
+use Rattle.gp_isa.specs.Statement.{Action, action_of, line_of, most_bodies}
 use Rattle.gp_isa.specs.Trace.{Point, Local, point_at, called_at, repeated, points_at, points_of_body, body_of, trace_within}
 use Rattle.gp_isa.specs.Size.{most_frames}
 use Rattle.gp_isa.proofs.Sizes.{most_frames-append, most_frames-called, most_frames-repeated, most_frames-work}
@@ -44,11 +44,11 @@ module _ (calls : ℕ → List Point) (bound : ℕ) (few : (h : ℕ) → most_fr
         )
 
   nested_few : (deep : ℕ) (body : List Stmt) → most_frames (points_of_body calls f deep body) ≤ bound + 1
-  nested_few zero body = body_few (λ _. []) (λ _. omega arith) body
+  nested_few zero body = omega arith
   nested_few (suc deep) body = body_few (points_of_body calls f deep) (nested_few deep) body
 
 pub most_frames-trace_within : (parts : Parts) (depth f : ℕ) → most_frames (trace_within parts depth f) ≤ depth + 1
 unfolding trace_within
-most_frames-trace_within parts zero f = nested_few (λ _. []) 0 (λ _. omega arith) f 8 (body_of parts f)
+most_frames-trace_within parts zero f = nested_few (λ _. []) 0 (λ _. omega arith) f most_bodies (body_of parts f)
 most_frames-trace_within parts (suc depth) f =
-    omega (arith, nested_few (trace_within parts depth) (depth + 1) (most_frames-trace_within parts depth) f 8 (body_of parts f))
+    omega (arith, nested_few (trace_within parts depth) (depth + 1) (most_frames-trace_within parts depth) f most_bodies (body_of parts f))

@@ -7,7 +7,7 @@ use Rattle.std.proofs.lemmas.Map.Steps.{length-le_from_distinct_below}
 use Rattle.gp_isa.specs.declared.parts.Parts.{Parts}
 use Rattle.gp_isa.specs.Calls.{callees, reaches, is_recursive, first_from, first_recursive}
 use Rattle.gp_isa.specs.InLimits.{AreInLimits}
-use Rattle.gp_isa.specs.Ways.{is_among, marked, IsWay, LeadsBelow, AreLeads, AreCalls, GoThrough}
+use Rattle.gp_isa.specs.kept.Ways.{is_among, marked, IsWay, LeadsBelow, AreLeads, AreCalls, GoThrough}
 use Rattle.gp_isa.proofs.First.{first_from-same}
 use Rattle.gp_isa.proofs.Named.{callees_there}
 

@@ -7,7 +7,7 @@ use Rattle.gp_isa.specs.declared.parts.Parts.{Parts}
 use Rattle.gp_isa.specs.declared.size.Size.{Size}
 use Rattle.gp_isa.specs.Calls.{first_from, first_too_long, IsProgram}
 use Rattle.gp_isa.specs.Trace.{trace}
-use Rattle.gp_isa.specs.Size.{AreSizes}
+use Rattle.gp_isa.specs.kept.Sizes.{AreSizes}
 use Rattle.gp_isa.proofs.First.{first_from-same, each_fails}
 
 abbrev none : Size

@@ -13,3 +13,4 @@ pub mod Depth
 pub mod Examples
 pub mod Names
 pub mod NamedThere
+pub mod Actions

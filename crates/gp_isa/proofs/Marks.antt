@@ -1,5 +1,5 @@
 -- What statements call, and the marks that tell it.
-use Rattle.std.proofs.Common.{◌≡◌, ℕ, zero, suc, ◌+◌, ◌-◌, ◌<◌, ◌≤◌, ◌⊎◌, Bool, true, false, ◌||◌, ◌==◌, List, [], ◌∷◌, ◌++◌, length, take, get_or, set, flat_map, refl, sym, ap, ◌∙◌, subst, inl, inr, arith, get_or-set_other, eq-eqb, length-append}
+use Rattle.std.proofs.Common.{◌≡◌, ℕ, zero, suc, ◌+◌, ◌-◌, ◌<◌, ◌⊎◌, Bool, true, false, ◌||◌, ◌==◌, List, [], ◌∷◌, ◌++◌, length, take, get_or, set, flat_map, refl, sym, ap, ◌∙◌, subst, inl, inr, arith, get_or-set_other, eq-eqb, length-append}
 use Rattle.std.specs.List.{All}
 use Rattle.std.proofs.lemmas.Bool.{cases_eq, ne_eqb, or_left, or_right}
 use Rattle.std.proofs.lemmas.List.{take_more, flat_map_more, get_or_append_left, get_or-append-add}
@@ -8,9 +8,10 @@ use Rattle.std.proofs.lemmas.List.Folds.{list_any-append}
 use Rattle.gp_isa.specs.declared.statement.Stmt.{Stmt}
 use Rattle.gp_isa.specs.declared.statement.What.{What}
 use Rattle.gp_isa.specs.declared.statement.What.TheVariants as what
-use Rattle.gp_isa.specs.Statement.{action, action_of, action-call, action-loop}
+use Rattle.gp_isa.specs.Statement.{action, action_of}
+use Rattle.gp_isa.proofs.Actions.{action-call, action-loop}
 use Rattle.gp_isa.specs.Calls.{calls_of, calls_in}
-use Rattle.gp_isa.specs.Ways.{calls_inside, is_among, marked, AddsMarks}
+use Rattle.gp_isa.specs.kept.Ways.{is_among, marked, AddsMarks}
 
 module _ {X : Type 0} (P : ℕ → Type 0) (g : X → List ℕ) where
   all_left : (xs ys : List ℕ) → All P (xs ++ ys) → All P xs
@@ -26,19 +27,10 @@ module _ {X : Type 0} (P : ℕ → Type 0) (g : X → List ℕ) where
   all_at (y ∷ xs) (suc i) x within here all = all_at xs i x (omega arith) here (all_right (g y) (flat_map g xs) all)
 
 abbrev pub calls_of_statement : ℕ → Stmt → List ℕ
-calls_of_statement deep s = calls_of (calls_inside deep) (action_of s)
+calls_of_statement deep s = calls_of (calls_in deep) (action_of s)
 
-pub calls_in-statements : (deep : ℕ) (body : List Stmt) → calls_in deep body ≡ flat_map (calls_of_statement deep) body
-calls_in-statements zero body = refl
-calls_in-statements (suc deep) body = refl
-
-pub calls_inside-some : (deep : ℕ) (body : List Stmt) → 0 < deep → calls_inside deep body ≡ calls_in (deep - 1) body
-calls_inside-some zero body some = absurd (omega arith)
-calls_inside-some (suc deep) body some = let one : deep ≡ suc deep - 1 = omega arith in ap (λ d. calls_in d body) one
-
-pub calls_inside-none : (deep : ℕ) (body : List Stmt) → deep ≤ 0 → calls_inside deep body ≡ []
-calls_inside-none zero body none = refl
-calls_inside-none (suc deep) body none = absurd (omega arith)
+pub calls_in-some : (deep : ℕ) (body : List Stmt) → 0 < deep → calls_in deep body ≡ calls_in (suc (deep - 1)) body
+calls_in-some deep body some = let one : deep ≡ suc (deep - 1) = omega arith in ap (λ d. calls_in d body) one
 
 pub calls_of-call : (inner : List Stmt → List ℕ) (w : What) (f : ℕ) → w ≡ what.Call f → calls_of inner (action w) ≡ f ∷ []
 calls_of-call inner w f is = ap (λ w. calls_of inner (action w)) is ∙ ap (calls_of inner) (action-call f)

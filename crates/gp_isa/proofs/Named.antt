@@ -9,11 +9,11 @@ use Rattle.gp_isa.specs.declared.parts.Function.{Function}
 use Rattle.gp_isa.specs.declared.parts.Parts.{Parts}
 use Rattle.gp_isa.specs.declared.statement.Stmt.{Stmt}
 use Rattle.gp_isa.specs.declared.statement.What.TheOpen.{Work, Call, Loop, Send, Recv, Lock, Unlock, Spawn, Labels}
-use Rattle.gp_isa.specs.Statement.{Action, action_of}
+use Rattle.gp_isa.specs.Statement.{Action, action_of, most_bodies}
 use Rattle.gp_isa.specs.Calls.{calls_of, calls_in, callees}
 use Rattle.gp_isa.specs.InLimits.{IsAction, AreStatements, AreInLimits}
 use Rattle.gp_isa.specs.Trace.{body_of}
-use Rattle.gp_isa.specs.Ways.{is_among, marked, AreCalls}
+use Rattle.gp_isa.specs.kept.Ways.{is_among, marked, AreCalls}
 use Rattle.gp_isa.proofs.Tables.{body_of-within, body_of-past}
 
 module _ (parts : Parts) where
@@ -40,7 +40,7 @@ module _ (parts : Parts) where
         (body_there body (All-tail (λ s. IsAction parts Within (action_of s)) s body are))
 
   calls_there : (deep : ℕ) (body : List Stmt) → AreStatements parts deep body → All IsThere (calls_in deep body)
-  calls_there zero body are = body_there (λ _. []) (λ _. ⊥) (λ b never. absurd never) body are
+  calls_there zero body are = absurd are
   calls_there (suc deep) body are = body_there (calls_in deep) (AreStatements parts deep) (calls_there deep) body are
 
   pub callees_there : AreInLimits parts → (f : ℕ) → All IsThere (callees parts f)
@@ -48,16 +48,16 @@ module _ (parts : Parts) where
     where
       at : ((x : Function) × (f < length parts.functions) × (slice_get parts.functions f ≡ Some x) × (get_or parts.functions f x ≡ x)) ⊎ ((length parts.functions ≤ f) × (slice_get parts.functions f ≡ None)) → All IsThere (callees parts f)
       at (inl (x, within, found, here)) =
-          subst (λ body. All IsThere (calls_in 8 body)) (ap (λ (g : Function). g.body) here ∙ sym (body_of-within parts f x within (sym here)))
-          (calls_there 8 (get_or parts.functions f x).body (limits.statements f x within))
-      at (inr (past, found)) = subst (λ body. All IsThere (calls_in 8 body)) (sym (body_of-past parts f past)) (All-nil IsThere)
+          subst (λ body. All IsThere (calls_in most_bodies body)) (ap (λ (g : Function). g.body) here ∙ sym (body_of-within parts f x within (sym here)))
+          (calls_there most_bodies (get_or parts.functions f x).body (limits.statements f x within))
+      at (inr (past, found)) = subst (λ body. All IsThere (calls_in most_bodies body)) (sym (body_of-past parts f past)) (All-nil IsThere)
 
   pub row_fits : AreInLimits parts → (functions : List Function) (f : ℕ) (function : Function) (body : List Stmt) → functions ≡ parts.functions → f < length functions →
-      function ≡ get_or functions f function → body ≡ function.body → All (λ h. h < 256) (calls_in 8 body)
+      function ≡ get_or functions f function → body ≡ function.body → All (λ h. h < 256) (calls_in most_bodies body)
   row_fits limits functions f function body same within here is k d below =
       let its : body_of parts f ≡ body =
       body_of-within parts f function (subst (λ fs. f < length fs) same within) (subst (λ fs. function ≡ get_or fs f function) same here) ∙ sym is in
-      let there : All IsThere (calls_in 8 body) = subst (λ b. All IsThere (calls_in 8 b)) its (callees_there limits f) in
+      let there : All IsThere (calls_in most_bodies body) = subst (λ b. All IsThere (calls_in most_bodies b)) its (callees_there limits f) in
       omega (arith, there k d below, limits.functions)
 
 -- one row more
@@ -72,9 +72,9 @@ one_row_more test rows i row len is pushed push before k h below = ap (λ rs. ma
 
 -- the row of a function tells whom it calls
 pub row_tells : (parts : Parts) (functions : List Function) (f : ℕ) (function : Function) (body : List Stmt) (row : List Bool) → functions ≡ parts.functions → f < length functions →
-    function ≡ get_or functions f function → body ≡ function.body → ((h : ℕ) → marked row h ≡ is_among h (calls_in 8 body)) → (h : ℕ) → marked row h ≡ is_among h (callees parts f)
+    function ≡ get_or functions f function → body ≡ function.body → ((h : ℕ) → marked row h ≡ is_among h (calls_in most_bodies body)) → (h : ℕ) → marked row h ≡ is_among h (callees parts f)
 row_tells parts functions f function body row same within here is tells h =
-    tells h ∙ ap (λ b. is_among h (calls_in 8 b)) (is ∙ sym (body_of-within parts f function (subst (λ fs. f < length fs) same within) (subst (λ fs. function ≡ get_or fs f function) same here)))
+    tells h ∙ ap (λ b. is_among h (calls_in most_bodies b)) (is ∙ sym (body_of-within parts f function (subst (λ fs. f < length fs) same within) (subst (λ fs. function ≡ get_or fs f function) same here)))
 
 pub whole_rows : (parts : Parts) (rows : List (List Bool)) → length rows ≡ length parts.functions →
     ((k h : ℕ) → k < length parts.functions → marked (get_or rows k []) h ≡ is_among h (callees parts k)) → AreCalls parts rows
@@ -82,4 +82,4 @@ whole_rows parts rows len each = record { each = λ f h. at f h (cases_lt f (len
   where
     at : (f h : ℕ) → (f < length parts.functions) ⊎ (length parts.functions ≤ f) → marked (get_or rows f []) h ≡ is_among h (callees parts f)
     at f h (inl within) = each f h within
-    at f h (inr past) = ap (λ r. marked r h) (get_or_past rows f [] (omega arith)) ∙ sym (ap (λ body. is_among h (calls_in 8 body)) (body_of-past parts f past))
+    at f h (inr past) = ap (λ r. marked r h) (get_or_past rows f [] (omega arith)) ∙ sym (ap (λ body. is_among h (calls_in most_bodies body)) (body_of-past parts f past))

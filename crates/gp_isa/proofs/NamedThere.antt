@@ -8,7 +8,7 @@ use Rattle.gp_isa.specs.declared.parts.Parts.{Parts}
 use Rattle.gp_isa.specs.declared.statement.Stmt.{Stmt}
 use Rattle.gp_isa.specs.declared.statement.What.TheOpen.{Work, Call, Loop, Send, Recv, Lock, Unlock, Spawn, Labels}
 use Rattle.gp_isa.specs.InLimits.{IsAction, AreStatements, AreInLimits}
-use Rattle.gp_isa.specs.Statement.{Action, action_of, line_of}
+use Rattle.gp_isa.specs.Statement.{Action, action_of, line_of, most_bodies}
 use Rattle.gp_isa.specs.Trace.{Instruction, Local, Point, point_at, called_at, repeated, points_at, points_of_body, body_of, trace_within, trace}
 use Rattle.gp_isa.specs.Names.{IsThere, AreThere, TracesNameWhatIsThere}
 
@@ -46,7 +46,7 @@ module _ (parts : Parts) where
           (action_names (line_of s) (action_of s) (All-head IsStatement s body are)) (body_names body (All-tail IsStatement s body are))
 
     nested_names : (deep : ℕ) (body : List Stmt) → AreStatements parts deep body → AreThere parts (points_of_body calls f deep body)
-    nested_names zero body are = body_names (λ _. []) (λ _. ⊥) (λ body never. absurd never) body are
+    nested_names zero body are = absurd are
     nested_names (suc deep) body are = body_names (points_of_body calls f deep) (AreStatements parts deep) (nested_names deep) body are
 
 -- a function that isn't there has no statements
@@ -55,8 +55,8 @@ no_body parts f past = ap (λ (o : Option Function). elim o as (λ _. List Stmt)
 
 pub trace_within-past : (parts : Parts) (depth f : ℕ) → length parts.functions ≤ f → trace_within parts depth f ≡ []
 unfolding trace_within
-trace_within-past parts zero f past = ap (points_of_body (λ _. []) f 8) (no_body parts f past)
-trace_within-past parts (suc depth) f past = ap (points_of_body (trace_within parts depth) f 8) (no_body parts f past)
+trace_within-past parts zero f past = ap (points_of_body (λ _. []) f most_bodies) (no_body parts f past)
+trace_within-past parts (suc depth) f past = ap (points_of_body (trace_within parts depth) f most_bodies) (no_body parts f past)
 
 -- There is no trace where there is no such function.
 pub trace-past : (parts : Parts) (f : ℕ) → length parts.functions ≤ f → trace parts f ≡ []
@@ -64,19 +64,19 @@ unfolding trace
 trace-past parts f past = trace_within-past parts (length parts.functions) f past
 
 abbrev HasStatements : Parts → Function → Type 0
-HasStatements parts function = AreStatements parts 8 function.body
+HasStatements parts function = AreStatements parts most_bodies function.body
 
 statements_of : (parts : Parts) (functions : List Function) (f : ℕ) → All (HasStatements parts) functions →
-    AreStatements parts 8 (elim (slice_get functions f) as (λ _. List Stmt) [ Some function ↦ function.body | None ↦ [] ])
+    AreStatements parts most_bodies (elim (slice_get functions f) as (λ _. List Stmt) [ Some function ↦ function.body | None ↦ [] ])
 statements_of parts [] f all = All-nil _
 statements_of parts (function ∷ functions) zero all = All-head (HasStatements parts) function functions all
 statements_of parts (function ∷ functions) (suc f) all = statements_of parts functions f (All-tail (HasStatements parts) function functions all)
 
 pub trace_within-names : (parts : Parts) (depth f : ℕ) → AreInLimits parts → AreThere parts (trace_within parts depth f)
 unfolding trace_within
-trace_within-names parts zero f limits = nested_names parts (λ _. []) (λ h. All-nil _) f 8 (body_of parts f) (statements_of parts parts.functions f limits.statements)
+trace_within-names parts zero f limits = nested_names parts (λ _. []) (λ h. All-nil _) f most_bodies (body_of parts f) (statements_of parts parts.functions f limits.statements)
 trace_within-names parts (suc depth) f limits =
-    nested_names parts (trace_within parts depth) (λ h. trace_within-names parts depth h limits) f 8 (body_of parts f) (statements_of parts parts.functions f limits.statements)
+    nested_names parts (trace_within parts depth) (λ h. trace_within-names parts depth h limits) f most_bodies (body_of parts f) (statements_of parts parts.functions f limits.statements)
 
 pub traces_name_what_is_there : TracesNameWhatIsThere
 unfolding trace

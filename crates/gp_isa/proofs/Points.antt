@@ -1,29 +1,24 @@
 -- The points of a statement, by what it is.
-use Rattle.std.proofs.Common.{◌≡◌, ℕ, zero, suc, ◌-◌, ◌+◌, ◌<◌, ◌⊎◌, List, [], ◌∷◌, ◌++◌, length, take, get_or, flat_map, refl, sym, ap, ◌∙◌, inl, inr, arith}
+use Rattle.std.proofs.Common.{◌≡◌, ℕ, suc, ◌-◌, ◌+◌, ◌<◌, ◌⊎◌, List, [], ◌∷◌, ◌++◌, length, take, get_or, flat_map, sym, ap, ◌∙◌, inl, inr, arith}
 use Rattle.std.proofs.lemmas.List.{take_more, flat_map_more}
 use Rattle.gp_isa.specs.declared.size.Size.{Size}
 use Rattle.gp_isa.specs.declared.statement.Stmt.{Stmt}
 use Rattle.gp_isa.specs.declared.statement.What.{What}
 use Rattle.gp_isa.specs.declared.statement.What.TheVariants as what
-use Rattle.gp_isa.specs.Statement.{action, action_of, line_of, action-loop, action-send, action-recv, action-lock, action-unlock, action-spawn, action-labels}
+use Rattle.gp_isa.specs.Statement.{action, action_of, line_of}
+use Rattle.gp_isa.proofs.Actions.{action-loop, action-send, action-recv, action-lock, action-unlock, action-spawn, action-labels}
 use Rattle.gp_isa.specs.Trace.{Point, Instruction, Labels, Send, Recv, Lock, Unlock, Spawn, point_at, repeated, points_at, points_of_body}
-use Rattle.gp_isa.specs.Size.{size_of, points_inside}
+use Rattle.gp_isa.specs.kept.Sizes.{size_of}
 
 module _ (calls : ℕ → List Point) (f : ℕ) where
-  pub points_inside-none : (deep : ℕ) (body : List Stmt) → deep ≡ 0 → points_inside calls f deep body ≡ []
-  points_inside-none zero body none = refl
-  points_inside-none (suc deep) body none = absurd (omega arith)
+  pub points_of_body-none : (deep : ℕ) (body : List Stmt) → deep ≡ 0 → points_of_body calls f deep body ≡ []
+  points_of_body-none deep body none = ap (λ d. points_of_body calls f d body) none
 
-  pub points_inside-some : (deep : ℕ) (body : List Stmt) → (deep ≡ 0 → ⊥) → points_inside calls f deep body ≡ points_of_body calls f (deep - 1) body
-  points_inside-some zero body some = absurd (some refl)
-  points_inside-some (suc deep) body some = let one : deep ≡ suc deep - 1 = omega arith in ap (λ d. points_of_body calls f d body) one
+  pub points_of_body-some : (deep : ℕ) (body : List Stmt) → (deep ≡ 0 → ⊥) → points_of_body calls f deep body ≡ points_of_body calls f (suc (deep - 1)) body
+  points_of_body-some deep body some = let one : deep ≡ suc (deep - 1) = omega arith in ap (λ d. points_of_body calls f d body) one
 
   abbrev pub points_of_statement : ℕ → Stmt → List Point
-  points_of_statement deep s = points_at calls (points_inside calls f deep) f (line_of s) (action_of s)
-
-  pub points_of_body-statements : (deep : ℕ) (body : List Stmt) → points_of_body calls f deep body ≡ flat_map (points_of_statement deep) body
-  points_of_body-statements zero body = refl
-  points_of_body-statements (suc deep) body = refl
+  points_of_statement deep s = points_at calls (points_of_body calls f deep) f (line_of s) (action_of s)
 
   -- the points of one statement more
   pub points_of_body-more : (deep : ℕ) (body : List Stmt) (i : ℕ) (s : Stmt) → i < length body → s ≡ get_or body i s →

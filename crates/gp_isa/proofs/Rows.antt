@@ -1,6 +1,6 @@
 -- Rows of marks.
 use Rattle.std.proofs.Common.{◌≡◌, ℕ, zero, suc, ◌<◌, ◌≤◌, Bool, false, ◌||◌, ◌&&◌, List, [], get_or, replicate, refl}
-use Rattle.gp_isa.specs.Ways.{marked}
+use Rattle.gp_isa.specs.kept.Ways.{marked}
 
 pub unmarked : (n h : ℕ) → marked (replicate n false) h ≡ false
 unmarked zero h = refl

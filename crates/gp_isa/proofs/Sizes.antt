@@ -6,7 +6,8 @@ use Rattle.std.proofs.lemmas.Nat.{mul-le}
 use Rattle.gp_isa.specs.declared.size.Size.{Size}
 use Rattle.gp_isa.specs.Limits.{most_points}
 use Rattle.gp_isa.specs.Trace.{Point, Local, point_at, called_at, repeated}
-use Rattle.gp_isa.specs.Size.{most_frames, size_of}
+use Rattle.gp_isa.specs.Size.{most_frames}
+use Rattle.gp_isa.specs.kept.Sizes.{size_of}
 
 abbrev sized : ℕ → ℕ → Size
 sized points frames = record { points = points; frames = frames }

@@ -4,12 +4,13 @@ use Rattle.std.specs.List.{All}
 use Rattle.std.proofs.lemmas.Bool.{cases_lt}
 use Rattle.std.proofs.lemmas.List.{get_or_append_left, get_or_default, get_or_past, get_or_push}
 use Rattle.std.proofs.lemmas.Option.{slice_get_read, slice_get_past}
+use Rattle.gp_isa.specs.Statement.{most_bodies}
 use Rattle.gp_isa.specs.declared.parts.Function.{Function}
 use Rattle.gp_isa.specs.declared.parts.Parts.{Parts}
 use Rattle.gp_isa.specs.declared.size.Size.{Size}
 use Rattle.gp_isa.specs.declared.statement.Stmt.{Stmt}
 use Rattle.gp_isa.specs.Trace.{Point, points_of_body, body_of, points_of, trace_within, trace}
-use Rattle.gp_isa.specs.Size.{size_of, AreSizes}
+use Rattle.gp_isa.specs.kept.Sizes.{size_of, AreSizes}
 use Rattle.gp_isa.proofs.Frames.{most_frames-trace_within}
 
 abbrev body_in : Option Function → List Stmt
@@ -40,14 +41,14 @@ whole_table parts calls table len each = record { each = λ k. at k (cases_lt k 
   where
     at : (k : ℕ) → (k < length parts.functions) ⊎ (length parts.functions ≤ k) → get_or table k none ≡ size_of (points_of parts calls k)
     at k (inl within) = each k within
-    at k (inr past) = get_or_past table k none (omega arith) ∙ sym (ap (λ body. size_of (points_of_body calls k 8 body)) (body_of-past parts k past))
+    at k (inr past) = get_or_past table k none (omega arith) ∙ sym (ap (λ body. size_of (points_of_body calls k most_bodies body)) (body_of-past parts k past))
 
 -- the size of a function's statements is that of its points
 pub size_of-function : (parts : Parts) (calls : ℕ → List Point) (functions : List Function) (i : ℕ) (function : Function) (a : Size) (body : List Stmt) →
     functions ≡ parts.functions → i < length functions → function ≡ get_or functions i function → body ≡ function.body →
-    a ≡ size_of (points_of_body calls i 8 body) → a ≡ size_of (points_of parts calls i)
+    a ≡ size_of (points_of_body calls i most_bodies body) → a ≡ size_of (points_of parts calls i)
 size_of-function parts calls functions i function a body same within here its is =
-    is ∙ ap (λ b. size_of (points_of_body calls i 8 b)) (its ∙ sym (body_of-within parts i function
+    is ∙ ap (λ b. size_of (points_of_body calls i most_bodies b)) (its ∙ sym (body_of-within parts i function
     (subst (λ fs. i < length fs) same within) (subst (λ fs. function ≡ get_or fs i function) same here)))
 
 -- calls followed one deeper

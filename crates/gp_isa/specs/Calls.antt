@@ -1,13 +1,13 @@
 -- Who calls whom, and what a checked program is.
-use Rattle.std.specs.Prelude.{◌≡◌, ◌+◌, ◌^◌, ℕ, zero, suc, Bool, true, false, ◌||◌, ◌==◌, List, [], ◌∷◌, length, Option, Some, None, IsSome, nat_lt}
+use Rattle.std.specs.Prelude.{◌≡◌, ◌+◌, ℕ, zero, suc, Bool, true, false, ◌||◌, ◌==◌, List, [], ◌∷◌, length, Option, Some, None, IsSome, nat_lt}
 use Rattle.std.specs.List.{flat_map, list_any}
 use Rattle.gp_isa.specs.declared.bad.Bad.{Bad}
 use Rattle.gp_isa.specs.declared.bad.Bad.TheVariants.{NoMain, Empty, Recursion, TooLong, Memory}
 use Rattle.gp_isa.specs.declared.parts.Parts.{Parts}
 use Rattle.gp_isa.specs.declared.statement.Stmt.{Stmt}
 use Rattle.gp_isa.specs.declared.statement.What.TheOpen.{Call, Loop}
-use Rattle.gp_isa.specs.Statement.{Action, action_of}
-use Rattle.gp_isa.specs.Limits.{most_loops, most_points}
+use Rattle.gp_isa.specs.Statement.{Action, action_of, most_bodies}
+use Rattle.gp_isa.specs.Limits.{most_points}
 use Rattle.gp_isa.specs.Checked.{main_of, first_empty}
 use Rattle.gp_isa.specs.Trace.{body_of, points_of, trace_within, trace}
 
@@ -17,14 +17,14 @@ calls_of inner (Call h) = h ∷ []
 calls_of inner (Loop n body end) = inner body
 calls_of inner _ = []
 
--- the functions that statements call, in which loops stand at most `deep` inside each other
+-- the functions that statements call, in which bodies stand at most `deep` inside each other, this one included
 abbrev pub calls_in : ℕ → List Stmt → List ℕ
-calls_in zero body = flat_map (λ s. calls_of (λ _. []) (action_of s)) body
+calls_in zero body = []
 calls_in (suc deep) body = flat_map (λ s. calls_of (calls_in deep) (action_of s)) body
 
 -- the functions that function f calls
 abbrev pub callees : Parts → ℕ → List ℕ
-callees parts f = calls_in most_loops (body_of parts f)
+callees parts f = calls_in most_bodies (body_of parts f)
 
 -- whether f calls h, directly or through at most `steps` others
 unfoldable pub reaches : Parts → ℕ → ℕ → ℕ → Bool
@@ -60,7 +60,8 @@ abbrev pub IsCause : Parts → Bad → Type 0
 IsCause parts NoMain = main_of parts ≡ None
 IsCause parts (Empty f) = IsSome (main_of parts) × (first_empty parts ≡ Some f)
 IsCause parts (Recursion f) = IsSome (main_of parts) × (first_empty parts ≡ None) × (first_recursive parts ≡ Some f)
-IsCause parts (TooLong f) = IsSome (main_of parts) × (first_empty parts ≡ None) × (first_recursive parts ≡ None) × (first_too_long parts ≡ Some f)
+IsCause parts (TooLong f) =
+    IsSome (main_of parts) × (first_empty parts ≡ None) × (first_recursive parts ≡ None) × (first_too_long parts ≡ Some f)
 IsCause parts Memory = Unit {0}
 
 -- In a checked program calls followed deeper give the same points, which is the equation of a call: the points of

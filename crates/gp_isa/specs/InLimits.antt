@@ -13,8 +13,8 @@ use Rattle.gp_isa.specs.declared.parts.LabelSet.{LabelSet}
 use Rattle.gp_isa.specs.declared.parts.Pair.{Pair}
 use Rattle.gp_isa.specs.declared.statement.Stmt.{Stmt}
 use Rattle.gp_isa.specs.declared.statement.What.TheOpen.{Work, Call, Loop, Send, Recv, Lock, Unlock, Spawn, Labels}
-use Rattle.gp_isa.specs.Limits.{name_bytes, most_functions, most_channels, most_mutexes, most_label_sets, most_pairs, most_capacity, most_loops}
-use Rattle.gp_isa.specs.Statement.{Action, action_of}
+use Rattle.gp_isa.specs.Limits.{name_bytes, most_functions, most_channels, most_mutexes, most_label_sets, most_pairs, most_capacity}
+use Rattle.gp_isa.specs.Statement.{Action, action_of, most_bodies}
 
 -- the names of one space: each of so many bytes at most, and no two alike
 pub record AreNames (names : List (List ℕ)) : Type 0 where
@@ -29,7 +29,8 @@ pub record IsPair (pair : Pair) : Type 0 where
 
 -- the keys rise byte by byte, so that none stands twice
 abbrev pub KeysRise : List Pair → Type 0
-KeysRise pairs = (k : ℕ) (d : Pair) → k + 1 < length pairs → slice_cmp nat_cmp (slice_index_or pairs k d).key (slice_index_or pairs (k + 1) d).key ≡ Less
+KeysRise pairs = (k : ℕ) (d : Pair) → k + 1 < length pairs →
+    slice_cmp nat_cmp (slice_index_or pairs k d).key (slice_index_or pairs (k + 1) d).key ≡ Less
 
 -- The pairs of a label set.
 pub record ArePairs (pairs : List Pair) : Type 0 where
@@ -49,21 +50,16 @@ IsAction parts Within (Unlock m) = m < length parts.mutexes
 IsAction parts Within (Spawn f) = f < length parts.functions
 IsAction parts Within (Labels s) = (1 ≤ s) × (s ≤ length parts.labels)
 
--- the statements of a body in which loops stand at most `deep` inside each other
+-- the statements of a body in which bodies stand at most `deep` inside each other, this one included
 abbrev pub AreStatements : Parts → ℕ → List Stmt → Type 0
-AreStatements parts zero body = All (λ s. IsAction parts (λ _. ⊥) (action_of s)) body
+AreStatements parts zero body = ⊥
 AreStatements parts (suc deep) body = All (λ s. IsAction parts (AreStatements parts deep) (action_of s)) body
-
--- the statements of a loop's body, which there is none where no loop may stand
-abbrev pub AreInside : Parts → ℕ → List Stmt → Type 0
-AreInside parts zero body = ⊥
-AreInside parts (suc deep) body = AreStatements parts deep body
 
 -- The parts of a program file lie in its limits.
 pub record AreInLimits (parts : Parts) : Type 0 where
   pub functions : length parts.functions ≤ most_functions
   pub function_names : AreNames (map (λ (f : Function). f.name) parts.functions)
-  pub statements : All (λ f. AreStatements parts most_loops f.body) parts.functions
+  pub statements : All (λ f. AreStatements parts most_bodies f.body) parts.functions
   pub channels : length parts.channels ≤ most_channels
   pub channel_names : AreNames (map (λ (c : ChannelDecl). c.name) parts.channels)
   pub capacities : All (λ c. c.capacity ≤ most_capacity) parts.channels

@@ -1,11 +1,10 @@
 pub mod Limits
 pub mod Statement
 pub mod Trace
+pub mod WorkedTraces
 pub mod InLimits
 pub mod Checked
 pub mod Calls
 pub mod Size
-pub mod Ways
-pub mod Kept
-pub mod WorkedTraces
 pub mod Names
+pub mod kept

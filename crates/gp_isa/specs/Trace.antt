@@ -6,8 +6,7 @@ use Rattle.gp_isa.specs.declared.frame.Frame.{Frame}
 use Rattle.gp_isa.specs.declared.parts.Parts.{Parts}
 use Rattle.gp_isa.specs.declared.statement.Stmt.{Stmt}
 use Rattle.gp_isa.specs.declared.statement.What.TheOpen.{Work, Call, Loop, Send as SendStatement, Recv as RecvStatement, Lock as LockStatement, Unlock as UnlockStatement, Spawn as SpawnStatement, Labels as LabelsStatement}
-use Rattle.gp_isa.specs.Limits.{most_loops}
-use Rattle.gp_isa.specs.Statement.{Action, action_of, line_of}
+use Rattle.gp_isa.specs.Statement.{Action, action_of, line_of, most_bodies}
 
 -- What is done at a point: an instruction of work, or that the goroutine's labels become a set; these two are
 -- local. Or, at a shared point, an operation on a channel or a mutex, or the birth of a goroutine.
@@ -62,10 +61,11 @@ points_at calls inner f line (LockStatement m) = point_at f line (Lock m) ∷ []
 points_at calls inner f line (UnlockStatement m) = point_at f line (Unlock m) ∷ []
 points_at calls inner f line (SpawnStatement h) = point_at f line (Spawn h) ∷ []
 
--- the points of statements of function f, in which loops stand at most `deep` inside each other
+-- The points of statements of function f, in which bodies stand at most `deep` inside each other, this one included.
 abbrev pub points_of_body : (ℕ → List Point) → ℕ → ℕ → List Stmt → List Point
-points_of_body calls f zero body = flat_map (λ s. points_at calls (λ _. []) f (line_of s) (action_of s)) body
-points_of_body calls f (suc deep) body = flat_map (λ s. points_at calls (points_of_body calls f deep) f (line_of s) (action_of s)) body
+points_of_body calls f zero body = []
+points_of_body calls f (suc deep) body =
+    flat_map (λ s. points_at calls (points_of_body calls f deep) f (line_of s) (action_of s)) body
 
 -- the statements of function f, none where there is no such function
 abbrev pub body_of : Parts → ℕ → List Stmt
@@ -74,9 +74,9 @@ body_of parts f = elim (slice_get parts.functions f) as (λ _. List Stmt) [
   | None ↦ []
 ]
 
--- the points of function f, where `calls` gives those of the functions that it calls; loops stand at most so deep
+-- the points of function f, where `calls` gives those of the functions that it calls
 abbrev pub points_of : Parts → (ℕ → List Point) → ℕ → List Point
-points_of parts calls f = points_of_body calls f most_loops (body_of parts f)
+points_of parts calls f = points_of_body calls f most_bodies (body_of parts f)
 
 -- the points of function f, with calls followed `depth` deep
 unfoldable pub trace_within : Parts → ℕ → ℕ → List Point
@@ -88,8 +88,10 @@ unfoldable pub trace : Parts → ℕ → List Point
 trace parts f = trace_within parts (length parts.functions) f
 
 -- Two examples at line 3 of function 0: a call of a function with one point, and a loop of two turns.
-a_call : points_at (λ h. point_at h 8 Local ∷ []) (λ body. []) 0 3 (Call 1) ≡ record { stack = record { function = 1; line = 8 } ∷ record { function = 0; line = 3 } ∷ []; instruction = Local } ∷ []
+a_call : points_at (λ h. point_at h 8 Local ∷ []) (λ body. []) 0 3 (Call 1)
+    ≡ record { stack = record { function = 1; line = 8 } ∷ record { function = 0; line = 3 } ∷ []; instruction = Local } ∷ []
 a_call = refl
 
-a_loop : points_at (λ h. []) (λ body. point_at 0 4 (Send 0) ∷ []) 0 3 (Loop 2 [] 5) ≡ point_at 0 4 (Send 0) ∷ point_at 0 4 (Send 0) ∷ []
+a_loop : points_at (λ h. []) (λ body. point_at 0 4 (Send 0) ∷ []) 0 3 (Loop 2 [] 5)
+    ≡ point_at 0 4 (Send 0) ∷ point_at 0 4 (Send 0) ∷ []
 a_loop = refl

@@ -1,8 +1,8 @@
-ghost use Rattle.std.specs.Prelude.{◌≡◌, ◌<◌, ◌-◌, ◌+◌, ◌≤◌, ℕ, ◌||◌, List, [], length, All, IfOk, IfSome, slice_index_or};
+ghost use Rattle.std.specs.Prelude.{◌≡◌, ◌<◌, ◌-◌, ◌+◌, ◌≤◌, ℕ, suc, ◌||◌, List, [], length, All, IfOk, IfSome, slice_index_or};
 ghost use Rattle.gp_isa.specs.InLimits.{AreInLimits};
-ghost use Rattle.gp_isa.specs.Statement.{action};
+ghost use Rattle.gp_isa.specs.Statement.{action, most_bodies};
 ghost use Rattle.gp_isa.specs.Calls.{calls_of, calls_in, callees, first_from, first_recursive};
-ghost use Rattle.gp_isa.specs.Ways.{calls_inside, is_among, marked, AddsMarks, AreCalls, GoThrough, AreLeads};
+ghost use Rattle.gp_isa.specs.kept.Ways.{is_among, marked, AddsMarks, AreCalls, GoThrough, AreLeads};
 
 use crate::limits;
 use crate::memory::Memory;
@@ -13,11 +13,11 @@ use std::alloc::Global;
 /// A mark for each function, of which there are 256 at most.
 type Row = [bool; 256];
 
-// Marks the functions that statements call, where loops stand at most `deep` inside each other.
+// Marks the functions that statements call, in which loops stand at most `deep` inside each other.
 #[cycle(calls)]
 fn mark_calls(body: &[Stmt], deep: u8, row: &mut [bool])
-    requires { All (λ h. h < length row.old) (calls_in deep body.now) }
-    ensures { AddsMarks row.old row.new (calls_in deep body.now) }
+    requires { All (λ h. h < length row.old) (calls_in (suc deep) body.now) }
+    ensures { AddsMarks row.old row.new (calls_in (suc deep) body.now) }
 {
     for statement in body {
         mark_statement(&statement.what, deep, row);
@@ -27,8 +27,8 @@ fn mark_calls(body: &[Stmt], deep: u8, row: &mut [bool])
 // Marks the functions that a statement calls.
 #[cycle(calls)]
 fn mark_statement(what: &What, deep: u8, row: &mut [bool])
-    requires { All (λ h. h < length row.old) (calls_of (calls_inside deep) (action what.now)) }
-    ensures { AddsMarks row.old row.new (calls_of (calls_inside deep) (action what.now)) }
+    requires { All (λ h. h < length row.old) (calls_of (calls_in deep) (action what.now)) }
+    ensures { AddsMarks row.old row.new (calls_of (calls_in deep) (action what.now)) }
 {
     match what {
         What::Call { f } => row[*f as usize] = true,
@@ -49,8 +49,8 @@ fn mark_statement(what: &What, deep: u8, row: &mut [bool])
 
 // The functions that a function's statements call.
 fn call_row(body: &[Stmt]) -> Row
-    requires { All (λ h. h < 256) (calls_in 8 body.now) }
-    ensures { (h : ℕ) → marked result h ≡ is_among h (calls_in 8 body.now) }
+    requires { All (λ h. h < 256) (calls_in most_bodies body.now) }
+    ensures { (h : ℕ) → marked result h ≡ is_among h (calls_in most_bodies body.now) }
 {
     let mut row = [false; 256];
     mark_calls(body, limits::LOOPS, &mut row);

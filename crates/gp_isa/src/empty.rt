@@ -1,4 +1,4 @@
-ghost use Rattle.std.specs.Prelude.{◌≡◌, ◌<◌, ◌-◌, length, IfSome};
+ghost use Rattle.std.specs.Prelude.{◌≡◌, ◌<◌, suc, length, IfSome};
 ghost use Rattle.gp_isa.specs.Statement.{action};
 ghost use Rattle.gp_isa.specs.Checked.{lacks_statement, loop_lacks, first_empty};
 
@@ -9,7 +9,7 @@ use crate::statement::{Stmt, What};
 // Whether a body, or that of a loop in it, has no statement, where loops stand at most `deep` inside each other.
 #[cycle(bare)]
 fn is_bare(body: &[Stmt], deep: u8) -> bool
-    ensures { result ≡ lacks_statement deep body.now }
+    ensures { result ≡ lacks_statement (suc deep) body.now }
 {
     if body.is_empty() {
         return true;
@@ -29,7 +29,7 @@ fn is_bare(body: &[Stmt], deep: u8) -> bool
 #[cycle(bare)]
 fn holds_bare_loop(what: &What, deep: u8) -> bool
     requires { 0 < deep }
-    ensures { result ≡ loop_lacks (lacks_statement (deep - 1)) (action what.now) }
+    ensures { result ≡ loop_lacks (lacks_statement deep) (action what.now) }
 {
     match what {
         What::Loop { body, .. } => is_bare(body.as_slice(), deep - 1),

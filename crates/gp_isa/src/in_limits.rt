@@ -1,9 +1,9 @@
-ghost use Rattle.std.specs.Prelude.{◌≡◌, ◌≤◌, ◌<◌, ◌↔◌, ℕ, List, length, map, All, IsTrue, slice_index_or};
+ghost use Rattle.std.specs.Prelude.{◌≡◌, ◌≤◌, ◌<◌, ◌↔◌, ℕ, suc, List, length, map, All, IsTrue, slice_index_or};
 ghost use Rattle.std.specs.List.{list_any};
 ghost use Rattle.std.specs.Str.{bytes_eq};
 ghost use Rattle.gp_isa.specs.Limits.{most_functions, most_channels, most_mutexes, most_label_sets, most_capacity, most_loops};
-ghost use Rattle.gp_isa.specs.Statement.{action};
-ghost use Rattle.gp_isa.specs.InLimits.{AreNames, IsPair, ArePairs, KeysRise, IsAction, AreStatements, AreInside, AreInLimits};
+ghost use Rattle.gp_isa.specs.Statement.{action, most_bodies};
+ghost use Rattle.gp_isa.specs.InLimits.{AreNames, IsPair, ArePairs, KeysRise, IsAction, AreStatements, AreInLimits};
 
 use crate::limits;
 use crate::parts::{ChannelDecl, Function, LabelSet, MutexDecl, Pair, Parts};
@@ -100,7 +100,7 @@ fn pairs_fit(pairs: &[Pair]) -> bool
 // Whether statements fit in which loops stand at most `deep` inside each other.
 #[cycle(limits)]
 fn statements_fit(parts: &Parts, body: &[Stmt], deep: u8) -> bool
-    ensures { IsTrue result ↔ AreStatements parts.now deep body.now }
+    ensures { IsTrue result ↔ AreStatements parts.now (suc deep) body.now }
 {
     for statement in body {
         if !action_fits(parts, &statement.what, deep) {
@@ -113,13 +113,19 @@ fn statements_fit(parts: &Parts, body: &[Stmt], deep: u8) -> bool
 // Whether what a statement does fits.
 #[cycle(limits)]
 fn action_fits(parts: &Parts, what: &What, deep: u8) -> bool
-    ensures { IsTrue result ↔ IsAction parts.now (AreInside parts.now deep) (action what.now) }
+    ensures { IsTrue result ↔ IsAction parts.now (AreStatements parts.now deep) (action what.now) }
 {
     match what {
         What::Work { n } => *n >= 1,
         What::Call { f } => (*f as usize) < parts.functions.len(),
         What::Loop { n, body, .. } => {
-            *n >= 1 && deep > 0 && statements_fit(parts, body.as_slice(), deep - 1)
+            if *n == 0 {
+                return false;
+            }
+            if deep == 0 {
+                return false;
+            }
+            statements_fit(parts, body.as_slice(), deep - 1)
         }
         What::Send { c } => (*c as usize) < parts.channels.len(),
         What::Recv { c } => (*c as usize) < parts.channels.len(),
@@ -131,7 +137,7 @@ fn action_fits(parts: &Parts, what: &What, deep: u8) -> bool
 }
 
 fn functions_fit(parts: &Parts) -> bool
-    ensures { IsTrue result ↔ ((length parts.now.functions ≤ most_functions) × AreNames (map (λ (f : Function). f.name) parts.now.functions) × All (λ f. AreStatements parts.now most_loops f.body) parts.now.functions) }
+    ensures { IsTrue result ↔ ((length parts.now.functions ≤ most_functions) × AreNames (map (λ (f : Function). f.name) parts.now.functions) × All (λ f. AreStatements parts.now most_bodies f.body) parts.now.functions) }
 {
     let functions = parts.functions.as_slice();
     functions.len() <= limits::FUNCTIONS

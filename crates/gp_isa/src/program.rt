@@ -32,7 +32,7 @@ impl Model for Program {
 
     ghost coded = { Prim.hlevel (codes, what.the_row.coded) };
 
-    ghost use Rattle.gp_isa.specs.Kept.{KeepsSizes};
+    ghost use Rattle.gp_isa.specs.kept.Sizes.{KeepsSizes};
 
     ghost view = { λ p. p.parts };
 

@@ -1,9 +1,10 @@
-ghost use Rattle.std.specs.Prelude.{◌≡◌, ◌<◌, ◌-◌, ◌+◌, ◌++◌, ◌^◌, ℕ, List, ◌∷◌, [], length, map, replicate, All, IfOk, IfSome, ◌≤◌, nat_lt, slice_index_or};
+ghost use Rattle.std.specs.Prelude.{◌≡◌, ◌<◌, ◌-◌, ◌+◌, ◌++◌, ◌^◌, ℕ, suc, List, ◌∷◌, [], length, map, replicate, All, IfOk, IfSome, ◌≤◌, nat_lt, slice_index_or};
 ghost use Rattle.gp_isa.specs.Limits.{most_points};
 ghost use Rattle.gp_isa.specs.Calls.{first_from};
 ghost use Rattle.gp_isa.specs.Statement.{action};
 ghost use Rattle.gp_isa.specs.Trace.{Point, Instruction, Local, point_at, called_at, repeated, points_at, points_of_body, points_of, trace};
-ghost use Rattle.gp_isa.specs.Size.{size_of, AreSizes, most_frames_below, points_inside};
+ghost use Rattle.gp_isa.specs.Size.{most_frames_below};
+ghost use Rattle.gp_isa.specs.kept.Sizes.{size_of, AreSizes};
 
 use crate::limits;
 use crate::memory::Memory;
@@ -90,7 +91,7 @@ impl Size {
 #[cycle(size)]
 fn body_size(body: &[Stmt], deep: u8, sizes: &[Size]) -> Size
     requires { All (λ s. s.frames < 2 ^ 32 - 1) sizes.now }
-    ensures { (calls : ℕ → List Point) (f : ℕ) → AreSizes sizes.now calls → result ≡ size_of (points_of_body calls f deep body.now) }
+    ensures { (calls : ℕ → List Point) (f : ℕ) → AreSizes sizes.now calls → result ≡ size_of (points_of_body calls f (suc deep) body.now) }
 {
     let mut total = Size::none();
     for statement in body {
@@ -103,7 +104,7 @@ fn body_size(body: &[Stmt], deep: u8, sizes: &[Size]) -> Size
 #[cycle(size)]
 fn statement_size(what: &What, deep: u8, sizes: &[Size]) -> Size
     requires { All (λ s. s.frames < 2 ^ 32 - 1) sizes.now }
-    ensures { (calls : ℕ → List Point) (f line : ℕ) → AreSizes sizes.now calls → result ≡ size_of (points_at calls (points_inside calls f deep) f line (action what.now)) }
+    ensures { (calls : ℕ → List Point) (f line : ℕ) → AreSizes sizes.now calls → result ≡ size_of (points_at calls (points_of_body calls f deep) f line (action what.now)) }
 {
     match what {
         What::Work { n } => Size::work(*n),

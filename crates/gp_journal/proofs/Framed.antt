@@ -7,7 +7,7 @@ use Rattle.gp_isa.specs.declared.frame.Frame.{Frame}
 use Rattle.gp_isa.specs.declared.parts.Parts.{Parts}
 use Rattle.gp_isa.specs.declared.statement.Stmt.{Stmt}
 use Rattle.gp_isa.specs.declared.statement.What.TheOpen.{Work, Call, Loop, Send, Recv, Lock, Unlock, Spawn, Labels}
-use Rattle.gp_isa.specs.Statement.{Action, action_of, line_of}
+use Rattle.gp_isa.specs.Statement.{Action, action_of, line_of, most_bodies}
 use Rattle.gp_isa.specs.Trace.{Instruction, Local, Point, point_at, called_at, repeated, points_at, points_of_body, body_of, trace_within, trace}
 use Rattle.gp_isa.proofs.NamedThere.{trace_within-past}
 
@@ -57,14 +57,14 @@ module _ (parts : Parts) where
           (action_framed (line_of s) (action_of s)) (body_framed body)
 
     nested_framed : (deep : ℕ) (body : List Stmt) → AreFramed (points_of_body calls f deep body)
-    nested_framed zero body = body_framed (λ _. []) (λ _. All-nil IsFramed) body
+    nested_framed zero body = All-nil IsFramed
     nested_framed (suc deep) body = body_framed (points_of_body calls f deep) (nested_framed deep) body
 
   within_framed : (depth f : ℕ) → (f < length parts.functions) ⊎ (length parts.functions ≤ f) → AreFramed (trace_within parts depth f)
   unfolding trace_within
-  within_framed zero f (inl there) = nested_framed (λ _. []) (λ h. All-nil IsFramed) f there 8 (body_of parts f)
+  within_framed zero f (inl there) = nested_framed (λ _. []) (λ h. All-nil IsFramed) f there most_bodies (body_of parts f)
   within_framed (suc depth) f (inl there) =
-      nested_framed (trace_within parts depth) (λ h. within_framed depth h (cases_lt h (length parts.functions))) f there 8 (body_of parts f)
+      nested_framed (trace_within parts depth) (λ h. within_framed depth h (cases_lt h (length parts.functions))) f there most_bodies (body_of parts f)
   within_framed depth f (inr past) = subst AreFramed (sym (trace_within-past parts depth f past)) (All-nil IsFramed)
 
   pub trace_framed : (f : ℕ) → AreFramed (trace parts f)

@@ -1,7 +1,7 @@
 -- The worked journals, computed.
 use Rattle.std.proofs.Common.{◌≡◌, ℕ, zero, suc, true, false, List, [], ◌∷◌, ◌++◌, get_or, refl, sym, subst, replicate}
 use Rattle.gp_isa.specs.declared.parts.Parts.{Parts}
-use Rattle.gp_isa.specs.Statement.{action-work, action-spawn, action-send, action-recv, action-lock, action-unlock}
+use Rattle.gp_isa.proofs.Actions.{action-work, action-spawn, action-send, action-recv, action-lock, action-unlock}
 use Rattle.gp_isa.specs.Trace.{Local, Send, Recv, Lock, Unlock, Spawn, Point, point_at, trace, trace_within}
 use Rattle.gp_stack.specs.Goroutine.{next_point, is_ended, stack_of, labels_of, local_ahead}
 use Rattle.gp_journal.specs.declared.entry.Entry.{Entry}

@@ -6,7 +6,7 @@ use Rattle.std.specs.List.{flat_map}
 use Rattle.gp_isa.specs.declared.parts.Parts.{Parts}
 use Rattle.gp_isa.specs.declared.statement.Stmt.{Stmt}
 use Rattle.gp_isa.specs.declared.statement.What.TheOpen.{Work, Call, Loop, Send, Recv, Lock, Unlock, Spawn, Labels}
-use Rattle.gp_isa.specs.Statement.{Action, action_of, line_of}
+use Rattle.gp_isa.specs.Statement.{Action, action_of, line_of, most_bodies}
 use Rattle.gp_isa.specs.Trace.{Point, called_at, repeated, points_at, points_of_body, body_of, trace_within, trace}
 use Rattle.gp_isa.specs.Calls.{IsProgram}
 use Rattle.gp_isa.specs.Size.{most_frames, most_frames_below, depth_of}
@@ -54,7 +54,7 @@ framed_list calls inner each f (s ∷ body) =
     framed_append (points_at calls inner f (line_of s) (action_of s)) (flat_map (λ s. points_at calls inner f (line_of s) (action_of s)) body) (framed_at calls inner each f (line_of s) (action_of s)) (framed_list calls inner each f body)
 
 framed_body : (calls : ℕ → List Point) (f deep : ℕ) (body : List Stmt) → Framed (points_of_body calls f deep body)
-framed_body calls f zero body = framed_list calls (λ _. []) (λ b. tt) f body
+framed_body calls f zero body = tt
 framed_body calls f (suc deep) body = framed_list calls (points_of_body calls f deep) (framed_body calls f deep) f body
 
 no_frames : (points : List Point) → Framed points → most_frames points ≤ 0 → points ≡ []
@@ -103,17 +103,17 @@ agree_list calls whole most agree inner inside loops f (s ∷ body) few =
     ap (λ xs. first ++ xs) (agree_list calls whole most agree inner inside loops f body (omega arith))
 
 agree_body : (calls whole : ℕ → List Point) (most : ℕ) → Agree calls whole most → (f deep : ℕ) (body : List Stmt) → most_frames (points_of_body whole f deep body) ≤ most + 1 → points_of_body calls f deep body ≡ points_of_body whole f deep body
-agree_body calls whole most agree f zero body few = agree_list calls whole most agree (λ _. []) (λ _. []) (λ b h. refl) f body few
+agree_body calls whole most agree f zero body few = refl
 agree_body calls whole most agree f (suc deep) body few = agree_list calls whole most agree (points_of_body calls f deep) (points_of_body whole f deep) (agree_body calls whole most agree f deep) f body few
 
 -- calls followed as deep as a trace has frames give it whole
 pub deep_enough : (parts : Parts) → IsProgram parts → (k : ℕ) → Agree (points_of_call parts k) (trace parts) k
 deep_enough parts program zero f few =
-    let whole : trace parts f ≡ points_of_body (trace parts) f 8 (body_of parts f) = traces_follow_calls parts f program in
-    sym (no_frames (trace parts f) (subst Framed (sym whole) (framed_body (trace parts) f 8 (body_of parts f))) few)
+    let whole : trace parts f ≡ points_of_body (trace parts) f most_bodies (body_of parts f) = traces_follow_calls parts f program in
+    sym (no_frames (trace parts f) (subst Framed (sym whole) (framed_body (trace parts) f most_bodies (body_of parts f))) few)
 deep_enough parts program (suc k) f few =
-    let whole : trace parts f ≡ points_of_body (trace parts) f 8 (body_of parts f) = traces_follow_calls parts f program in
-    trace_call parts k f ∙ (agree_body (points_of_call parts k) (trace parts) k (deep_enough parts program k) f 8 (body_of parts f) (subst (λ xs. most_frames xs ≤ k + 1) whole (omega arith)) ∙ sym whole)
+    let whole : trace parts f ≡ points_of_body (trace parts) f most_bodies (body_of parts f) = traces_follow_calls parts f program in
+    trace_call parts k f ∙ (agree_body (points_of_call parts k) (trace parts) k (deep_enough parts program k) f most_bodies (body_of parts f) (subst (λ xs. most_frames xs ≤ k + 1) whole (omega arith)) ∙ sym whole)
 
 below_most : (traces : ℕ → List Point) (n f : ℕ) → f < n → most_frames (traces f) ≤ most_frames_below traces n
 below_most traces zero f within = absurd (omega arith)

@@ -7,21 +7,20 @@ use Rattle.gp_isa.specs.declared.parts.Parts.{Parts}
 use Rattle.gp_isa.specs.declared.parts.Function.{Function}
 use Rattle.gp_isa.specs.declared.statement.Stmt.{Stmt}
 use Rattle.gp_isa.specs.declared.statement.What.TheOpen.{Call, Loop}
-use Rattle.gp_isa.specs.Statement.{Action, action_of, line_of}
+use Rattle.gp_isa.specs.Statement.{Action, action_of, line_of, most_bodies}
 use Rattle.gp_isa.specs.Trace.{Point, called_at, repeated, points_at, points_of_body, body_of, trace_within, trace}
 use Rattle.gp_stack.specs.declared.level.Level.{Level}
-use Rattle.gp_stack.specs.kept.Level.{is_base, body_inside, line_at, body_at, frame_of, callers, called_from, inner_points, points_of_call, points_of_statements, left_here, left}
+use Rattle.gp_stack.specs.kept.Level.{is_base, body_inside, line_at, body_at, frame_of, callers, called_from, points_of_call, points_of_statements, left_here, left}
 use Rattle.gp_stack.specs.kept.Place.{stepped, turned}
 use Rattle.gp_stack.specs.kept.Ahead.{Does}
 use Rattle.gp_stack.proofs.Levels.{drop_at, inside_does, base_false, looped}
 
-pub body_cons : (calls : ℕ → List Point) (f deep : ℕ) (s : Stmt) (body : List Stmt) → points_of_body calls f deep (s ∷ body) ≡ points_at calls (inner_points calls f deep) f (line_of s) (action_of s) ++ points_of_body calls f deep body
-body_cons calls f zero s body = refl
-body_cons calls f (suc deep) s body = refl
+pub body_cons : (calls : ℕ → List Point) (f deep : ℕ) (s : Stmt) (body : List Stmt) → points_of_body calls f (suc deep) (s ∷ body)
+    ≡ points_at calls (points_of_body calls f deep) f (line_of s) (action_of s) ++ points_of_body calls f (suc deep) body
+body_cons calls f deep s body = refl
 
-pub body_nil : (calls : ℕ → List Point) (f deep : ℕ) → points_of_body calls f deep [] ≡ []
-body_nil calls f zero = refl
-body_nil calls f (suc deep) = refl
+pub body_nil : (calls : ℕ → List Point) (f deep : ℕ) → points_of_body calls f (suc deep) [] ≡ []
+body_nil calls f deep = refl
 
 pub repeated_none : (n : ℕ) → repeated n [] ≡ []
 repeated_none zero = refl
@@ -38,7 +37,7 @@ body_moved parts level at (o ∷ outer) = refl
 
 -- what the statement at a level adds to the points
 abbrev pub added : Parts → Level → ℕ → Action → List Point
-added parts level line a = points_at (points_of_call parts level.calls) (inner_points (points_of_call parts level.calls) level.function level.loops) level.function line a
+added parts level line a = points_at (points_of_call parts level.calls) (points_of_body (points_of_call parts level.calls) level.function level.loops) level.function line a
 
 pub here_next : (parts : Parts) (level : Level) (body : List Stmt) (a : Action) (d : Does body level.at a) → left_here parts level body ≡ added parts level (line_of d.statement) a ++ left_here parts (moved level (level.at + 1)) body
 unfolding left_here
@@ -82,15 +81,15 @@ callers_in_loop : (parts : Parts) (level : Level) (outer : List Level) → calle
 unfolding callers
 callers_in_loop parts level outer = refl
 
-loop_here : (parts : Parts) (level : Level) (k n : ℕ) (body : List Stmt) → left_here parts (loop_level level k n body) body ≡ repeated n (points_of_body (points_of_call parts level.calls) level.function k body)
+loop_here : (parts : Parts) (level : Level) (k n : ℕ) (body : List Stmt) → left_here parts (loop_level level k n body) body ≡ repeated n (points_of_body (points_of_call parts level.calls) level.function (suc k) body)
 unfolding left_here
-loop_here parts level k n body = rw (drop_all (length body) body (omega arith), body_nil (points_of_call parts level.calls) level.function k) refl
+loop_here parts level k n body = rw (drop_all (length body) body (omega arith)) refl
 
 pub left_loop : (parts : Parts) (level : Level) (outer : List Level) (k n end : ℕ) (body : List Stmt) → level.loops ≡ suc k → level.loops ≤ 8 → Does (body_at parts level outer) level.at (Loop n body end) → left parts (loop_level level k n body ∷ stepped (level ∷ outer)) ≡ left parts (level ∷ outer)
 left_loop parts level outer k n end body loops few d =
     let new : Level = loop_level level k n body in
     let inner : is_base new ≡ false = base_false new (λ e. omega arith) in
-    let points : List Point = repeated n (points_of_body (points_of_call parts level.calls) level.function k body) in
+    let points : List Point = repeated n (points_of_body (points_of_call parts level.calls) level.function (suc k) body) in
     let in_loop : left parts (new ∷ stepped (level ∷ outer)) ≡ map (called_from (callers parts (is_base level) outer)) points ++ left parts (stepped (level ∷ outer)) =
     left_cons parts new (stepped (level ∷ outer)) ∙ (rw (inner, body_of_loop parts level new outer n end body inner d, loop_here parts level k n body, callers_in_loop parts (moved level (level.at + 1)) outer) refl) in
     let adds : added parts level (line_of d.statement) (Loop n body end) ≡ points = rw loops refl in
@@ -100,7 +99,7 @@ left_loop parts level outer k n end body loops few d =
 abbrev pub call_level : Level → ℕ → ℕ → Level
 call_level level k h = record { at = 0; turns = 0; calls = k; function = h; loops = 8 }
 
-pub trace_call : (parts : Parts) (k h : ℕ) → trace_within parts k h ≡ points_of_body (points_of_call parts k) h 8 (body_of parts h)
+pub trace_call : (parts : Parts) (k h : ℕ) → trace_within parts k h ≡ points_of_body (points_of_call parts k) h most_bodies (body_of parts h)
 unfolding trace_within
 trace_call parts zero h = refl
 trace_call parts (suc k) h = refl
@@ -122,7 +121,7 @@ frame_of_call parts level outer a d =
 
 call_here : (parts : Parts) (level : Level) (k h : ℕ) → left_here parts (call_level level k h) (body_of parts h) ≡ trace_within parts k h
 unfolding left_here
-call_here parts level k h = append-nil (points_of_body (points_of_call parts k) h 8 (body_of parts h)) ∙ sym (trace_call parts k h)
+call_here parts level k h = append-nil (points_of_body (points_of_call parts k) h most_bodies (body_of parts h)) ∙ sym (trace_call parts k h)
 
 -- a frame put last, and then those of its callers
 map_called : (f line : ℕ) (frames : List Frame) (points : List Point) → map (called_from frames) (map (called_at f line) points) ≡ map (called_from (record { function = f; line = line } ∷ frames)) points
@@ -161,7 +160,7 @@ added_no_loop parts level line n end body none = rw none (repeated_none n)
 -- the end of a level
 here_end : (parts : Parts) (level : Level) (body : List Stmt) → length body ≤ level.at → left_here parts level body ≡ repeated level.turns (points_of_statements parts level body)
 unfolding left_here
-here_end parts level body past = rw (drop_all level.at body past, body_nil (points_of_call parts level.calls) level.function level.loops) refl
+here_end parts level body past = rw (drop_all level.at body past) refl
 
 here_turn : (parts : Parts) (level : Level) (body : List Stmt) (n : ℕ) → left_here parts (record level { at = 0; turns = n }) body ≡ repeated (suc n) (points_of_statements parts level body)
 unfolding left_here

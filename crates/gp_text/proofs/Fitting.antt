@@ -12,7 +12,9 @@ use Rattle.gp_isa.specs.declared.parts.ChannelDecl.{ChannelDecl}
 use Rattle.gp_isa.specs.declared.parts.MutexDecl.{MutexDecl}
 use Rattle.gp_isa.specs.declared.parts.LabelSet.{LabelSet}
 use Rattle.gp_isa.specs.declared.statement.Stmt.{Stmt}
-use Rattle.gp_isa.specs.Statement.{action_of, action-work, action-call, action-send, action-recv, action-lock, action-unlock, action-spawn}
+use Rattle.gp_isa.specs.Limits.{most_loops}
+use Rattle.gp_isa.specs.Statement.{action_of, most_bodies}
+use Rattle.gp_isa.proofs.Actions.{action-work, action-call, action-send, action-recv, action-lock, action-unlock, action-spawn}
 use Rattle.gp_isa.specs.InLimits.{AreNames, ArePairs, IsAction, AreStatements, AreInLimits}
 use Rattle.gp_text.specs.declared.verb.Verb.{Verb}
 use Rattle.gp_text.specs.declared.verb.Verb.TheVariants.{Call, Spawn, Send, Recv, Lock, Unlock}
@@ -115,17 +117,17 @@ abbrev IsKnown : Known → Said → Type 0
 IsKnown known s = is_unknown known s ≡ false
 
 abbrev Acts : Parts → Stmt → Type 0
-Acts parts s = IsAction parts (AreStatements parts 7) (action_of s)
+Acts parts s = IsAction parts (AreStatements parts most_loops) (action_of s)
 
 body_fits : (parts : Parts) (known : Known) (line : ℕ) (said : List Said) → Counts parts known → AllByRecursion Fits said → AllByRecursion (IsKnown known) said → AllByRecursion (Acts parts) (body_at known line said)
 unfolding body_at Fits
 body_fits parts known line [] counts fit usable = tt
 body_fits parts known line (Close ∷ after) counts fit usable = tt
-body_fits parts known line (Work n ∷ after) counts fit usable = (subst (IsAction parts (AreStatements parts 7)) (sym (action-work n)) fit.0.0, body_fits parts known (line + 1) after counts fit.1 usable.1)
-body_fits parts known line (Use verb name ∷ after) counts fit usable = (use_fits parts known (AreStatements parts 7) line verb name counts (known_name known verb name usable.0), body_fits parts known (line + 1) after counts fit.1 usable.1)
+body_fits parts known line (Work n ∷ after) counts fit usable = (subst (IsAction parts (AreStatements parts most_loops)) (sym (action-work n)) fit.0.0, body_fits parts known (line + 1) after counts fit.1 usable.1)
+body_fits parts known line (Use verb name ∷ after) counts fit usable = (use_fits parts known (AreStatements parts most_loops) line verb name counts (known_name known verb name usable.0), body_fits parts known (line + 1) after counts fit.1 usable.1)
 body_fits parts known line (s ∷ after) counts fit usable = body_fits parts known (line + 1) after counts fit.1 usable.1
 
-functions_fit : (parts : Parts) (known : Known) (line : ℕ) (said : List Said) → Counts parts known → AllByRecursion Fits said → AllByRecursion (IsKnown known) said → AllByRecursion (λ (f : Function). AreStatements parts 8 f.body) (functions_at known line said)
+functions_fit : (parts : Parts) (known : Known) (line : ℕ) (said : List Said) → Counts parts known → AllByRecursion Fits said → AllByRecursion (IsKnown known) said → AllByRecursion (λ (f : Function). AreStatements parts most_bodies f.body) (functions_at known line said)
 unfolding functions_at
 functions_fit parts known line [] counts fit usable = tt
 functions_fit parts known line (Header name ∷ after) counts fit usable =
@@ -155,7 +157,7 @@ in_limits said named sound usable =
     record {
       functions = omega (arith, counts.functions, sound.few Functions);
       function_names = subst AreNames (sym (function_names (known_of said) 1 said)) (are_names said Functions named sound);
-      statements = All-from_recursion (λ (f : Function). AreStatements (parts_of said) 8 f.body) (functions_at (known_of said) 1 said) (functions_fit (parts_of said) (known_of said) 1 said counts sound.fit usable);
+      statements = All-from_recursion (λ (f : Function). AreStatements (parts_of said) most_bodies f.body) (functions_at (known_of said) 1 said) (functions_fit (parts_of said) (known_of said) 1 said counts sound.fit usable);
       channels = omega (arith, counts.channels, sound.few Channels);
       channel_names = subst AreNames (sym (channel_names 1 said)) (are_names said Channels named sound);
       capacities = All-from_recursion (λ (c : ChannelDecl). c.capacity ≤ 65535) (channels_at 1 said) (channels_fit 1 said sound.fit);

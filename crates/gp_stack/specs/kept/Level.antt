@@ -54,14 +54,9 @@ abbrev pub points_of_call : Parts → ℕ → ℕ → List Point
 points_of_call parts zero f = []
 points_of_call parts (suc depth) f = trace_within parts depth f
 
--- the points of a loop's body, none where loops stand too deep
-abbrev pub inner_points : (ℕ → List Point) → ℕ → ℕ → List Stmt → List Point
-inner_points calls f zero body = []
-inner_points calls f (suc deep) body = points_of_body calls f deep body
-
 -- the points of statements at a level
 abbrev pub points_of_statements : Parts → Level → List Stmt → List Point
-points_of_statements parts level body = points_of_body (points_of_call parts level.calls) level.function level.loops body
+points_of_statements parts level body = points_of_body (points_of_call parts level.calls) level.function (suc level.loops) body
 
 -- the points that are left of a level, with the frames of its function alone
 unfoldable pub left_here : Parts → Level → List Stmt → List Point

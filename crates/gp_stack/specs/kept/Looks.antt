@@ -8,7 +8,7 @@ use Rattle.gp_stack.specs.declared.peek.Peek.{Peek}
 use Rattle.gp_stack.specs.declared.peek.Then.TheVariants.{Local, Shared, Over}
 use Rattle.gp_stack.specs.declared.statement.Operation.{Operation}
 use Rattle.gp_stack.specs.Peek.{operation_of}
-use Rattle.gp_stack.specs.kept.Level.{inner_points, points_of_call}
+use Rattle.gp_stack.specs.kept.Level.{points_of_call}
 
 -- points without their stacks: the operations of the shared ones
 abbrev pub steps : List Point → List (Option Operation)
@@ -27,7 +27,7 @@ peek_of (Some o ∷ more) limit = record { local = 0; then = Shared o }
 -- the points of a statement, and of statements, of function f, where so many calls and loops are followed
 unfoldable pub points_of_action : Parts → ℕ → ℕ → ℕ → ℕ → Action → List Point
 points_of_action parts calls loops f line a =
-    points_at (points_of_call parts calls) (inner_points (points_of_call parts calls) f loops) f line a
+    points_at (points_of_call parts calls) (points_of_body (points_of_call parts calls) f loops) f line a
 
 unfoldable pub points_of_all : Parts → ℕ → ℕ → ℕ → List Stmt → List Point
-points_of_all parts calls loops f body = points_of_body (points_of_call parts calls) f loops body
+points_of_all parts calls loops f body = points_of_body (points_of_call parts calls) f (suc loops) body

@@ -1,6 +1,6 @@
 -- The calls of the statements so far are marked.
 use Rattle.std.proofs.Common.{◌+◌, ◌*◌, take, flat_map}
-use Rattle.gp_isa.specs.Ways.{AddsMarks}
+use Rattle.gp_isa.specs.kept.Ways.{AddsMarks}
 use Rattle.gp_isa.proofs.Marks.{calls_of_statement}
 use Rattle.gp_isa.proofs.calls.+calls.Given as goal
 

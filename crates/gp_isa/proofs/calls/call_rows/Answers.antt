@@ -1,6 +1,6 @@
 use Rattle.std.proofs.Common.{[], ◌∷◌, length, ap, ◌∙◌, arith, length-append}
 use Rattle.gp_isa.specs.Calls.{callees}
-use Rattle.gp_isa.specs.Ways.{is_among}
+use Rattle.gp_isa.specs.kept.Ways.{is_among}
 use Rattle.gp_isa.proofs.Named.{row_fits, one_row_more, row_tells, whole_rows}
 use Rattle.gp_isa.proofs.calls.call_rows.Goals as goal
 

@@ -1,6 +1,6 @@
 use Rattle.std.proofs.Common.{◌≡◌, ◌+◌, Bool, List, length, drop, sym, ap, ◌∙◌, subst, arith}
 use Rattle.std.proofs.lemmas.List.{take_at}
-use Rattle.gp_isa.specs.Ways.{AreLeads, GoThrough}
+use Rattle.gp_isa.specs.kept.Ways.{AreLeads, GoThrough}
 use Rattle.gp_isa.proofs.Leads.{leads_none, leads_more}
 use Rattle.gp_isa.proofs.calls.lead_rows.Goals as goal
 

@@ -1,6 +1,6 @@
 use Rattle.std.proofs.Common.{◌∙◌, Bool, List, [], length, get_or, ap}
 use Rattle.gp_isa.specs.Calls.{first_from}
-use Rattle.gp_isa.specs.Ways.{marked}
+use Rattle.gp_isa.specs.kept.Ways.{marked}
 use Rattle.gp_isa.proofs.Leads.{first_recursive_is}
 use Rattle.gp_isa.proofs.calls.recursive_place.Goals as goal
 

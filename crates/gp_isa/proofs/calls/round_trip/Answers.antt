@@ -1,5 +1,5 @@
 use Rattle.std.proofs.Common.{[], length, get_or, sym, arith}
-use Rattle.gp_isa.specs.Ways.{marked}
+use Rattle.gp_isa.specs.kept.Ways.{marked}
 use Rattle.gp_isa.proofs.First.{first_from-Some, first_from-None}
 use Rattle.gp_isa.proofs.calls.round_trip.Goals as goal
 

@@ -1,6 +1,6 @@
 -- No row so far has a mark at its own place.
 use Rattle.std.proofs.Common.{◌≡◌, ℕ, ◌<◌, [], false, get_or}
-use Rattle.gp_isa.specs.Ways.{marked}
+use Rattle.gp_isa.specs.kept.Ways.{marked}
 use Rattle.gp_isa.proofs.calls.round_trip.Given as goal
 
 abbrev pub invariant-loop-f : goal.invariant-loop-f

@@ -1,6 +1,6 @@
 use Rattle.std.proofs.Common.{[], ◌∷◌, length, ◌∙◌, ap, arith, length-append}
 use Rattle.gp_isa.specs.Trace.{points_of}
-use Rattle.gp_isa.specs.Size.{size_of}
+use Rattle.gp_isa.specs.kept.Sizes.{size_of}
 use Rattle.gp_isa.proofs.Tables.{one_more, whole_table, size_of-function}
 use Rattle.gp_isa.proofs.size.deeper_sizes.Goals as goal
 

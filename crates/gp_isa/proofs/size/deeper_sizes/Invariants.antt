@@ -1,7 +1,7 @@
 -- Each function so far has its size.
 use Rattle.std.proofs.Common.{◌≡◌, ℕ, ◌<◌, List, length, get_or}
 use Rattle.gp_isa.specs.Trace.{Point, points_of}
-use Rattle.gp_isa.specs.Size.{size_of, AreSizes}
+use Rattle.gp_isa.specs.kept.Sizes.{size_of, AreSizes}
 use Rattle.gp_isa.proofs.size.deeper_sizes.Given as goal
 
 abbrev pub invariant-loop-function : goal.invariant-loop-function

@@ -1,7 +1,7 @@
 use Rattle.std.proofs.Common.{[], length, get_or, nat_lt, sym, arith}
 use Rattle.std.proofs.lemmas.Bool.{lt-ltb}
 use Rattle.gp_isa.specs.Limits.{most_points}
-use Rattle.gp_isa.specs.Size.{size_of}
+use Rattle.gp_isa.specs.kept.Sizes.{size_of}
 use Rattle.gp_isa.proofs.First.{first_from-Some, first_from-None}
 use Rattle.gp_isa.proofs.size.long_place.Goals as goal
 

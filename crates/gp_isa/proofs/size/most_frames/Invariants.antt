@@ -1,7 +1,8 @@
 -- The most frames in the traces so far.
 use Rattle.std.proofs.Common.{◌≡◌, ℕ, List}
 use Rattle.gp_isa.specs.Trace.{Point}
-use Rattle.gp_isa.specs.Size.{AreSizes, most_frames_below}
+use Rattle.gp_isa.specs.Size.{most_frames_below}
+use Rattle.gp_isa.specs.kept.Sizes.{AreSizes}
 use Rattle.gp_isa.proofs.size.most_frames.Given as goal
 
 abbrev pub invariant-loop-size : goal.invariant-loop-size

@@ -2,7 +2,7 @@ use Rattle.std.proofs.Common.{◌≡◌, suc, ◌+◌, ◌<◌, List, [], refl, 
 use Rattle.std.specs.List.{All}
 use Rattle.gp_isa.specs.declared.size.Size.{Size}
 use Rattle.gp_isa.specs.Trace.{trace_within}
-use Rattle.gp_isa.specs.Size.{AreSizes}
+use Rattle.gp_isa.specs.kept.Sizes.{AreSizes}
 use Rattle.gp_isa.proofs.Tables.{first_round, next_round, last_round, few_frames}
 use Rattle.gp_isa.proofs.size.trace_sizes.Goals as goal
 

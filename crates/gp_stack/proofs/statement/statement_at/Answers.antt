@@ -1,4 +1,4 @@
-use Rattle.gp_isa.specs.Statement.{action-work, action-labels, action-call, action-send, action-recv, action-lock, action-unlock, action-spawn, action-loop}
+use Rattle.gp_isa.proofs.Actions.{action-work, action-labels, action-call, action-send, action-recv, action-lock, action-unlock, action-spawn, action-loop}
 use Rattle.gp_stack.proofs.Levels.{does_what}
 use Rattle.gp_stack.proofs.statement.statement_at.Goals as goal
 

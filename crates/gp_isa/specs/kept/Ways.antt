@@ -1,15 +1,9 @@
 -- Ways of calls, and tables of who is led to from where.
-use Rattle.std.specs.Prelude.{◌≡◌, ◌<◌, ℕ, zero, suc, Bool, true, false, ◌||◌, ◌&&◌, ◌==◌, List, [], ◌∷◌, slice_index_or}
+use Rattle.std.specs.Prelude.{◌≡◌, ◌<◌, ℕ, Bool, true, false, ◌||◌, ◌&&◌, ◌==◌, List, [], ◌∷◌, slice_index_or}
 use Rattle.std.specs.Bool.{Decides}
 use Rattle.std.specs.List.{All, list_any}
 use Rattle.gp_isa.specs.declared.parts.Parts.{Parts}
-use Rattle.gp_isa.specs.declared.statement.Stmt.{Stmt}
-use Rattle.gp_isa.specs.Calls.{calls_in, callees}
-
--- the calls of a loop's body, which has none where no loop may stand
-abbrev pub calls_inside : ℕ → List Stmt → List ℕ
-calls_inside zero body = []
-calls_inside (suc deep) body = calls_in deep body
+use Rattle.gp_isa.specs.Calls.{callees}
 
 -- whether a number stands in a list
 abbrev pub is_among : ℕ → List ℕ → Bool
@@ -44,4 +38,5 @@ pub record AreCalls (parts : Parts) (rows : List (List Bool)) : Type 0 where
 
 -- Rows after ways through one more function: from f to it, and from it on.
 pub record GoThrough (old new : List (List Bool)) (through : ℕ) : Type 0 where
-  pub each : (f h : ℕ) → marked (slice_index_or new f []) h ≡ (marked (slice_index_or old f []) h || (marked (slice_index_or old f []) through && marked (slice_index_or old through []) h))
+  pub each : (f h : ℕ) → let row = slice_index_or old f [] in
+      marked (slice_index_or new f []) h ≡ (marked row h || (marked row through && marked (slice_index_or old through []) h))
