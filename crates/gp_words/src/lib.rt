@@ -43,6 +43,3 @@ mod words;
 pub use error::WordError;
 pub use jobs::Job;
 pub use words::job;
-
-#[cfg(test)]
-mod tests;
