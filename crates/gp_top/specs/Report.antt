@@ -6,10 +6,10 @@ use Rattle.gp_journal.specs.declared.entry.Entry.{Entry}
 use Rattle.gp_journal.specs.declared.entry.Entry.TheVariants.{Open, Refuse, Record, Close}
 use Rattle.gp_journal.specs.declared.goroutine.Worker.{Worker}
 use Rattle.gp_journal.specs.declared.settings.Settings.{Settings}
-use Rattle.gp_machine.specs.State.{code_of, births, live}
-use Rattle.gp_machine.specs.Due.{ended}
+use Rattle.gp_journal.specs.State.{code_of, births, live}
+use Rattle.gp_journal.specs.Due.{ended}
 use Rattle.gp_machine.specs.Made.{made_by}
-use Rattle.gp_machine.specs.Run.{last, IsFinished}
+use Rattle.gp_journal.specs.Run.{state_of, IsFinished}
 use Rattle.gp_sim.specs.Choice.{sim_journal}
 use Rattle.gp_journal.specs.Profiles.{AreFrozen}
 use Rattle.gp_top.specs.declared.report.Report.{Report}
@@ -51,8 +51,8 @@ pub record IsReport (program : Parts) (settings : Settings) (report : Report) : 
   pub recorded : map ids report.goroutine_records ≡ recorded_ids report.journal
   pub frozen : AreFrozen (code_of program) settings report.journal report.goroutine_records
   pub refused_are : report.refused ≡ refusals report.journal
-  pub done_are : report.done ≡ map (λ (worker : Worker). worker.instructions) (last (code_of program) settings report.journal).workers
+  pub done_are : report.done ≡ map (λ (worker : Worker). worker.instructions) (state_of program settings report.journal).workers
   pub made_are : AreMade settings report.journal report.made
-  pub ended_is : report.ended ≡ ended (last (code_of program) settings report.journal)
-  pub born_are : report.born ≡ births (last (code_of program) settings report.journal)
-  pub live_are : report.live ≡ live (last (code_of program) settings report.journal)
+  pub ended_is : report.ended ≡ ended (state_of program settings report.journal)
+  pub born_are : report.born ≡ births (state_of program settings report.journal)
+  pub live_are : report.live ≡ live (state_of program settings report.journal)

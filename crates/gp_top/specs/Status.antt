@@ -4,9 +4,9 @@ use Rattle.gp_isa.specs.declared.parts.Parts.{Parts}
 use Rattle.gp_journal.specs.declared.entry.Ended.{Ended}
 use Rattle.gp_journal.specs.declared.entry.Ended.TheVariants as ended
 use Rattle.gp_journal.specs.declared.settings.Settings.{Settings}
-use Rattle.gp_machine.specs.State.{code_of}
-use Rattle.gp_machine.specs.Due as machine
-use Rattle.gp_machine.specs.Run.{last}
+use Rattle.gp_journal.specs.State.{code_of}
+use Rattle.gp_journal.specs.Due as machine
+use Rattle.gp_journal.specs.Run.{state_of}
 use Rattle.gp_sim.specs.Choice.{sim_journal}
 use Rattle.gp_top.specs.declared.report.Report.{Report}
 use Rattle.gp_top.specs.Report.{refusals}
@@ -32,4 +32,4 @@ status_of report = status_of_end report.refused report.ended
 abbrev pub status_of_run : Parts → Settings → ℕ
 status_of_run program settings =
     let journal = sim_journal (code_of program) settings in
-    status_of_end (refusals journal) (machine.ended (last (code_of program) settings journal))
+    status_of_end (refusals journal) (machine.ended (state_of program settings journal))

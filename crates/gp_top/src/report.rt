@@ -2,7 +2,7 @@ ghost use Rattle.std.specs.Prelude.{◌≡◌, ◌≤◌, IfOk, map};
 ghost use Rattle.gp_journal.specs.declared.goroutine.Worker.{Worker};
 ghost use Rattle.gp_machine.specs.Settings.{AreInRange};
 ghost use Rattle.gp_machine.specs.State.{code_of};
-ghost use Rattle.gp_machine.specs.Run.{last, IsFinished};
+ghost use Rattle.gp_machine.specs.Run.{state_of, IsFinished};
 ghost use Rattle.gp_sim.specs.Choice.{sim_journal};
 ghost use Rattle.gp_journal.specs.Profiles.{records_of};
 ghost use Rattle.gp_top.specs.Report as definition;
@@ -58,7 +58,7 @@ fn instructions<R: Run>(
     requires settings { settings.now ≡ R.settings }
     requires range { AreInRange settings.now }
     ensures { IfOk result (λ done.
-        done ≡ map (λ (worker : Worker). worker.instructions) (last (code_of R.program) R.settings machine.now).workers) }
+        done ≡ map (λ (worker : Worker). worker.instructions) (state_of R.program R.settings machine.now).workers) }
 {
     let _ = machine.journal();
     let mut done = Vec::new(alloc);
