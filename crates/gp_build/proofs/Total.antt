@@ -4,10 +4,10 @@ use Rattle.std.proofs.lemmas.Cmp.{then_total, back_total, on_total, lists_total,
 use Rattle.gp_isa.specs.declared.frame.Frame.{Frame}
 use Rattle.gp_isa.specs.declared.parts.Pair.{Pair}
 use Rattle.gp_isa.specs.declared.parts.Parts.{Parts}
-use Rattle.gp_build.specs.declared.samples.Counted.{Counted}
+use Rattle.gp_build.specs.declared.samples.Group.{Group}
 use Rattle.gp_build.specs.Shown.{Shown, frame_cmp, pair_cmp, shown_cmp}
 use Rattle.gp_build.specs.Site.{function_of}
-use Rattle.gp_build.specs.Samples.{counted_cmp}
+use Rattle.gp_build.specs.Samples.{group_cmp}
 
 frame_total : (parts : Parts) → IsTotalOrder (frame_cmp parts)
 frame_total parts = then_total (on_total (λ (frame : Frame). (function_of parts frame.function).name) nat_list_cmp_total) (on_total (λ (frame : Frame). frame.line) nat_cmp_total)
@@ -18,5 +18,5 @@ pair_total = then_total (on_total (λ (pair : Pair). pair.key) nat_list_cmp_tota
 shown_total : (parts : Parts) → IsTotalOrder (shown_cmp parts)
 shown_total parts = then_total (on_total (λ (shown : Shown). shown.stack) (lists_total (frame_total parts))) (on_total (λ (shown : Shown). shown.labels) (lists_total pair_total))
 
-pub counted_total : (parts : Parts) → IsTotalOrder (counted_cmp parts)
-counted_total parts = then_total (back_total (on_total (λ (sample : Counted). sample.count) nat_cmp_total)) (on_total (λ (sample : Counted). sample.shown) (shown_total parts))
+pub group_total : (parts : Parts) → IsTotalOrder (group_cmp parts)
+group_total parts = then_total (back_total (on_total (λ (sample : Group). sample.count) nat_cmp_total)) (on_total (λ (sample : Group). sample.shown) (shown_total parts))

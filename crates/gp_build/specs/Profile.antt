@@ -6,9 +6,9 @@ use Rattle.gp_wire.specs.declared.profile.Profile.{Profile}
 use Rattle.gp_build.specs.declared.sample.Header.{Header}
 use Rattle.gp_build.specs.declared.sample.Kind.{Kind}
 use Rattle.gp_build.specs.declared.sample.StackSample.{StackSample}
-use Rattle.gp_build.specs.declared.samples.Counted.{Counted}
+use Rattle.gp_build.specs.declared.samples.Group.{Group}
 use Rattle.gp_build.specs.Message.{profile_of}
-use Rattle.gp_build.specs.Samples.{counted_in}
+use Rattle.gp_build.specs.Samples.{groups_in_order}
 use Rattle.gp_build.specs.Site.{site_of}
 
 -- goroutines, counted
@@ -25,16 +25,16 @@ goroutine_header = record {
 }
 
 -- what some records show, with their number
-abbrev pub sample_of_count : Counted → StackSample
-sample_of_count counted = record {
-  stack = map site_of counted.shown.stack;
-  set = counted.shown.set;
-  values = pos counted.count ∷ [];
+abbrev pub sample_of_group : Group → StackSample
+sample_of_group group = record {
+  stack = map site_of group.shown.stack;
+  set = group.shown.set;
+  values = pos group.count ∷ [];
 }
 
 -- the samples of records
 unfoldable pub goroutine_samples : Parts → List Record → List StackSample
-goroutine_samples parts rows = map sample_of_count (counted_in parts rows)
+goroutine_samples parts rows = map sample_of_group (groups_in_order parts rows)
 
 -- the goroutine profile of records
 unfoldable pub goroutine_profile_of : Parts → List ℕ → List Record → Profile

@@ -9,7 +9,7 @@ use gp_wire::Profile;
 use std::alloc::Global;
 
 // The profile with these tables.
-fn assembled<'a>(
+fn from_tables<'a>(
     alloc: Global,
     parts: &'a Parts,
     file: &'a str,
@@ -47,5 +47,5 @@ pub fn profile<'a>(
 {
     let parts = program.parts();
     let all = Tables::new(alloc, parts, file, header, samples)?;
-    assembled(alloc, parts, file, header, samples, &all)
+    from_tables(alloc, parts, file, header, samples, &all)
 }

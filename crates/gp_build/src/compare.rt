@@ -1,10 +1,10 @@
 ghost use Rattle.std.specs.Prelude.{◌≡◌};
 ghost use Rattle.std.specs.Cmp.Lexicographic.{slice_cmp};
 ghost use Rattle.gp_build.specs.Shown.{frame_cmp, pair_cmp, shown_cmp};
-ghost use Rattle.gp_build.specs.Samples.{counted_cmp};
+ghost use Rattle.gp_build.specs.Samples.{group_cmp};
 
 use crate::lookup::function_name;
-use crate::samples::Counted;
+use crate::samples::Group;
 use crate::shown::Shown;
 use gp_isa::{Frame, Pair, Parts};
 use std::cmp::Ordering;
@@ -61,8 +61,8 @@ fn compare_shown(parts: &Parts, a: &Shown, b: &Shown) -> Ordering
 }
 
 /// The order of samples: falling count, then stack, then labels.
-pub(crate) fn compare(parts: &Parts, a: &Counted, b: &Counted) -> Ordering
-    ensures { result ≡ counted_cmp parts.now a.now b.now }
+pub(crate) fn compare(parts: &Parts, a: &Group, b: &Group) -> Ordering
+    ensures { result ≡ group_cmp parts.now a.now b.now }
 {
     match b.count.cmp(&a.count) {
         Ordering::Equal => compare_shown(parts, &a.shown, &b.shown),

@@ -1,10 +1,10 @@
 ghost use Rattle.std.specs.Prelude.{◌≡◌, ◌+◌, ◌<◌, ◌^◌, All, map, unwrap_or, OnOk, IfOk};
 ghost use Rattle.indexmap.specs.IndexMap.{get, insert_entry};
-ghost use Rattle.gp_build.specs.declared.samples.Counted.{Counted};
+ghost use Rattle.gp_build.specs.declared.samples.Group.{Group};
 ghost use Rattle.gp_build.specs.Site.{site_of};
 ghost use Rattle.gp_build.specs.Shown.{shown_in, same_shown};
-ghost use Rattle.gp_build.specs.Samples.{entry_of, counted, counted_in};
-ghost use Rattle.gp_build.specs.Profile.{sample_of_count, goroutine_samples};
+ghost use Rattle.gp_build.specs.Samples.{group_of, groups_of, groups_in_order};
+ghost use Rattle.gp_build.specs.Profile.{sample_of_group, goroutine_samples};
 
 use crate::compare::compare;
 use crate::messages::one;
@@ -18,7 +18,7 @@ use std::alloc::Global;
 
 /// What is shown, and how many records show it.
 #[derive(Drop)]
-pub(crate) struct Counted<'a> {
+pub(crate) struct Group<'a> {
     pub shown: Shown<'a>,
     pub count: u64,
 }
@@ -40,7 +40,7 @@ fn counts<'a>(
     parts: &'a Parts,
     records: &'a [Record],
 ) -> Result<IndexMap<Shown<'a>, u64>, Memory>
-    ensures { IfOk result (λ counts. map entry_of counts.entries ≡ counted (map (shown_in parts.now) records.now)) }
+    ensures { IfOk result (λ counts. map group_of counts.entries ≡ groups_of (map (shown_in parts.now) records.now)) }
 {
     let mut counts = IndexMap::new(alloc);
     for record in records {
@@ -50,24 +50,24 @@ fn counts<'a>(
 }
 
 // Counts as a list, to be sorted.
-fn list<'a>(alloc: Global, counts: IndexMap<Shown<'a>, u64>) -> Result<Vec<Counted<'a>>, Memory>
-    ensures { IfOk result (λ samples. samples.items ≡ map entry_of counts.entry.entries) }
+fn list<'a>(alloc: Global, counts: IndexMap<Shown<'a>, u64>) -> Result<Vec<Group<'a>>, Memory>
+    ensures { IfOk result (λ samples. samples.items ≡ map group_of counts.entry.entries) }
 {
     let mut samples = Vec::new(alloc);
     for (shown, count) in counts {
-        samples.push(Counted { shown, count })?;
+        samples.push(Group { shown, count })?;
     }
     Ok(samples)
 }
 
 // What records show, counted, in order.
-fn ordered<'a>(
+fn groups<'a>(
     alloc: Global,
     parts: &'a Parts,
     records: &'a [Record],
-) -> Result<Vec<Counted<'a>>, Memory>
-    ensures counted { IfOk result (λ all. all.items ≡ counted_in parts.now records.now) }
-    ensures small { IfOk result (λ all. All (λ (counted : Counted). counted.count < 2 ^ 63) all.items) }
+) -> Result<Vec<Group<'a>>, Memory>
+    ensures groups { IfOk result (λ all. all.items ≡ groups_in_order parts.now records.now) }
+    ensures small { IfOk result (λ all. All (λ (group : Group). group.count < 2 ^ 63) all.items) }
 {
     let mut all = list(alloc, counts(alloc, parts, records)?)?;
     all.sort_by(|a, b| compare(parts, a, b))?;
@@ -84,24 +84,24 @@ fn sites(alloc: Global, stack: &[Frame]) -> Result<Sites, Memory>
     Ok(sites)
 }
 
-fn sample(alloc: Global, counted: &Counted) -> Result<StackSample, Memory>
-    requires { counted.now.count < 2 ^ 63 }
-    ensures { IfOk result (λ sample. sample ≡ sample_of_count counted.now) }
+fn sample(alloc: Global, group: &Group) -> Result<StackSample, Memory>
+    requires { group.now.count < 2 ^ 63 }
+    ensures { IfOk result (λ sample. sample ≡ sample_of_group group.now) }
 {
     Ok(StackSample {
-        stack: sites(alloc, counted.shown.stack())?,
-        set: counted.shown.set(),
-        values: one(alloc, counted.count as i64)?,
+        stack: sites(alloc, group.shown.stack())?,
+        set: group.shown.set(),
+        values: one(alloc, group.count as i64)?,
     })
 }
 
-fn samples_of(alloc: Global, all: &[Counted]) -> Result<Vec<StackSample>, Memory>
-    requires { All (λ (counted : Counted). counted.count < 2 ^ 63) all.now }
-    ensures { IfOk result (λ samples. samples.items ≡ map sample_of_count all.now) }
+fn samples_of(alloc: Global, all: &[Group]) -> Result<Vec<StackSample>, Memory>
+    requires { All (λ (group : Group). group.count < 2 ^ 63) all.now }
+    ensures { IfOk result (λ samples. samples.items ≡ map sample_of_group all.now) }
 {
     let mut samples = Vec::new(alloc);
-    for counted in all {
-        samples.push(sample(alloc, counted)?)?;
+    for group in all {
+        samples.push(sample(alloc, group)?)?;
     }
     Ok(samples)
 }
@@ -115,6 +115,6 @@ pub(crate) fn samples(
 ) -> Result<Vec<StackSample>, Memory>
     ensures { IfOk result (λ samples. samples.items ≡ goroutine_samples parts.now records.now) }
 {
-    let all = ordered(alloc, parts, records)?;
+    let all = groups(alloc, parts, records)?;
     samples_of(alloc, all.as_slice())
 }

@@ -7,7 +7,7 @@ ghost use Rattle.gp_build.specs.FirstNeed.{place_in};
 ghost use Rattle.gp_build.specs.Site.{same_site, same_routine};
 ghost use Rattle.gp_build.specs.Numbers.{kind_needs, period_needs, site_needs, label_needs, sample_needs};
 ghost use Rattle.gp_build.specs.Numbers.{string_table, location_table, function_table, routines_of};
-ghost use Rattle.gp_build.specs.kept.Tables.{needed};
+ghost use Rattle.gp_build.specs.kept.Tables.{with_needs};
 
 use crate::lookup::{filename, labels, name};
 use crate::need::Need;
@@ -20,7 +20,7 @@ use std::hash::Hash;
 
 // The name and the unit of a kind.
 fn need_kind<'a>(strings: &mut IndexSet<Need<'a>>, kind: &'a Kind) -> Result<(), Memory>
-    ensures { OnOk result (strings.new.keys ≡ needed strings.old.keys (kind_needs kind.now)) }
+    ensures { OnOk result (strings.new.keys ≡ with_needs strings.old.keys (kind_needs kind.now)) }
 {
     strings.insert(Need::text(kind.name.as_str()))?;
     strings.insert(Need::text(kind.unit.as_str()))?;
@@ -28,7 +28,7 @@ fn need_kind<'a>(strings: &mut IndexSet<Need<'a>>, kind: &'a Kind) -> Result<(),
 }
 
 fn need_kinds<'a>(strings: &mut IndexSet<Need<'a>>, kinds: &'a [Kind]) -> Result<(), Memory>
-    ensures { OnOk result (strings.new.keys ≡ needed strings.old.keys (flat_map kind_needs kinds.now)) }
+    ensures { OnOk result (strings.new.keys ≡ with_needs strings.old.keys (flat_map kind_needs kinds.now)) }
 {
     for kind in kinds {
         need_kind(strings, kind)?;
@@ -40,7 +40,7 @@ fn need_period<'a>(
     strings: &mut IndexSet<Need<'a>>,
     period_type: &'a Option<Kind>,
 ) -> Result<(), Memory>
-    ensures { OnOk result (strings.new.keys ≡ needed strings.old.keys (period_needs period_type.now)) }
+    ensures { OnOk result (strings.new.keys ≡ with_needs strings.old.keys (period_needs period_type.now)) }
 {
     match period_type {
         None => Ok(()),
@@ -55,7 +55,7 @@ fn need_sites<'a>(
     file: &'a str,
     stack: &[Site],
 ) -> Result<(), Memory>
-    ensures { OnOk result (strings.new.keys ≡ needed strings.old.keys (flat_map (site_needs parts.now file.now) stack.now)) }
+    ensures { OnOk result (strings.new.keys ≡ with_needs strings.old.keys (flat_map (site_needs parts.now file.now) stack.now)) }
 {
     for site in stack {
         strings.insert(Need::text(name(parts, site.routine)))?;
@@ -66,7 +66,7 @@ fn need_sites<'a>(
 
 // The key and the value of each label.
 fn need_labels<'a>(strings: &mut IndexSet<Need<'a>>, labels: &'a [Pair]) -> Result<(), Memory>
-    ensures { OnOk result (strings.new.keys ≡ needed strings.old.keys (flat_map label_needs labels.now)) }
+    ensures { OnOk result (strings.new.keys ≡ with_needs strings.old.keys (flat_map label_needs labels.now)) }
 {
     for pair in labels {
         strings.insert(Need::text(pair.key.as_str()))?;
@@ -82,7 +82,7 @@ fn need_sample<'a>(
     file: &'a str,
     sample: &StackSample,
 ) -> Result<(), Memory>
-    ensures { OnOk result (strings.new.keys ≡ needed strings.old.keys (sample_needs parts.now file.now sample.now)) }
+    ensures { OnOk result (strings.new.keys ≡ with_needs strings.old.keys (sample_needs parts.now file.now sample.now)) }
 {
     need_sites(strings, parts, file, sample.stack.as_slice())?;
     need_labels(strings, labels(parts, sample.set))
@@ -94,7 +94,7 @@ fn need_samples<'a>(
     file: &'a str,
     samples: &[StackSample],
 ) -> Result<(), Memory>
-    ensures { OnOk result (strings.new.keys ≡ needed strings.old.keys (flat_map (sample_needs parts.now file.now) samples.now)) }
+    ensures { OnOk result (strings.new.keys ≡ with_needs strings.old.keys (flat_map (sample_needs parts.now file.now) samples.now)) }
 {
     for sample in samples {
         need_sample(strings, parts, file, sample)?;

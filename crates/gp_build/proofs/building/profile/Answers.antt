@@ -11,7 +11,7 @@ returns c =
     let strings =
     c.in_ok-all.ensures.strings
     ∙ ap (λ (parts : Parts). string_table parts c.args.file.now c.args.header.now c.args.samples.now) c.parts-parts.ensures.parts in
-    subst (λ (profile : Profile). IfOk c.assembled.result (λ p. p ≡ profile))
+    subst (λ (profile : Profile). IfOk c.from_tables.result (λ p. p ≡ profile))
     (λ i. profile_with (c.parts-parts.ensures.parts i) c.args.file.now c.args.header.now c.args.samples.now
     (strings i) (c.in_ok-all.ensures.locations i) (c.in_ok-all.ensures.functions i))
-    c.assembled.ensures
+    c.from_tables.ensures

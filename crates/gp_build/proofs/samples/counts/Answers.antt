@@ -2,10 +2,10 @@ use Rattle.std.proofs.Common.{◌≡◌, List, [], ◌∷◌, ◌++◌, take, ma
 use Rattle.std.proofs.lemmas.List.{take_all, length-map, length-take}
 use Rattle.gp_stack.specs.declared.record.Record.{Record}
 use Rattle.gp_build.specs.Shown.{Shown, shown_in}
-use Rattle.gp_build.specs.Samples.{entry_of, counted}
+use Rattle.gp_build.specs.Samples.{group_of, groups_of}
 use Rattle.gp_build.specs.laws.Alike.{same_shown_equiv}
 use Rattle.gp_build.proofs.Tally.{tally, tally-nil, tally-step, lookup-small}
-use Rattle.gp_build.proofs.Counts.{counted-tally}
+use Rattle.gp_build.proofs.Counts.{groups-tally}
 use Rattle.gp_build.proofs.Steps.{map_more}
 use Rattle.gp_build.proofs.samples.counts.Goals as goal
 
@@ -33,6 +33,6 @@ loop-record-preserved c =
 pub returns : goal.returns
 returns c =
     let rows : List Record = c.args.records.now in
-    ap (map entry_of) c.loop-record.invariant
-    ∙ counted-tally (map (shown_in c.args.parts.now) (take c.loop-record.record-index rows))
-    ∙ ap (λ (l : List Record). counted (map (shown_in c.args.parts.now) l)) (take_all c.loop-record.record-index rows c.loop-record-test.false)
+    ap (map group_of) c.loop-record.invariant
+    ∙ groups-tally (map (shown_in c.args.parts.now) (take c.loop-record.record-index rows))
+    ∙ ap (λ (l : List Record). groups_of (map (shown_in c.args.parts.now) l)) (take_all c.loop-record.record-index rows c.loop-record-test.false)

@@ -1,9 +1,9 @@
-use Rattle.std.proofs.Common.{◌≡◌, List, [], ◌∷◌, ◌++◌, ap, ◌∙◌, refl}
+use Rattle.std.proofs.Common.{◌≡◌, List, [], ◌∷◌, ap, ◌∙◌, refl}
 use Rattle.std.specs.List.{flat_map}
 use Rattle.gp_build.specs.declared.sample.Kind.{Kind}
 use Rattle.gp_build.specs.FirstNeed.{first_seen}
 use Rattle.gp_build.specs.Numbers.{Need, text, same_need, kind_needs, period_needs, sample_needs, string_table}
-use Rattle.gp_build.specs.kept.Tables.{needed}
+use Rattle.gp_build.specs.kept.Tables.{with_needs}
 use Rattle.gp_build.specs.laws.Alike.{same_need_equiv}
 use Rattle.gp_build.proofs.FirstSeen.{seen_more}
 use Rattle.gp_build.proofs.tables.strings.Goals as goal
@@ -19,8 +19,8 @@ seen-first keys is = is
 pub returns : goal.returns
 unfolding first string_table
 returns c =
-    let types : c.need_kinds.new.strings.keys ≡ needed c.insert.new.self.keys (flat_map kind_needs c.args.header.now.types) =
-    c.in_ok-need_kinds.ensures ∙ ap (λ (kinds : List Kind). needed c.insert.new.self.keys (flat_map kind_needs kinds)) c.as_slice.ensures in
+    let types : c.need_kinds.new.strings.keys ≡ with_needs c.insert.new.self.keys (flat_map kind_needs c.args.header.now.types) =
+    c.in_ok-need_kinds.ensures ∙ ap (λ (kinds : List Kind). with_needs c.insert.new.self.keys (flat_map kind_needs kinds)) c.as_slice.ensures in
     let begun : c.insert.new.self.keys ≡ first =
     rw (c.in_ok-insert.ensures.keys, c.new-strings.ensures.empty, c.text.ensures) refl in
     seen_more same_need_equiv _ _ _ (flat_map (sample_needs c.args.parts.now c.args.file.now) c.args.samples.now)
