@@ -14,7 +14,13 @@ statement line what = roll-Stmt (record { line = line; what = what })
 abbrev pub looping : Parts
 looping = record {
   functions =
-      record { name = codes "main"; line = 3; end = 8; body = statement 4 (what.Labels 1) ∷ statement 5 (what.Loop 2 (statement 6 (what.Call 1) ∷ []) 7) ∷ [] }
+      record {
+        name = codes "main";
+        line = 3;
+        end = 8;
+        body =
+            statement 4 (what.Labels 1) ∷ statement 5 (what.Loop 2 (statement 6 (what.Call 1) ∷ []) 7) ∷ [];
+      }
       ∷ record { name = codes "f"; line = 9; end = 12; body = statement 10 (what.Work 1) ∷ statement 11 (what.Send 0) ∷ [] } ∷ [];
   channels = record { name = codes "c"; line = 2; capacity = 0 } ∷ [];
   mutexes = [];
@@ -31,7 +37,8 @@ within_call line instruction = record {
 -- A call has no point of its own, and a loop repeats its body's points.
 pub record LoopOfACall (program : Parts) : Type 0 where
   pub of_f : trace program 1 ≡ point_at 1 10 Local ∷ point_at 1 11 (Send 0) ∷ []
-  pub of_main : trace program 0 ≡ point_at 0 4 (Labels 1) ∷ within_call 10 Local ∷ within_call 11 (Send 0) ∷ within_call 10 Local ∷ within_call 11 (Send 0) ∷ []
+  pub of_main : trace program 0 ≡ point_at 0 4 (Labels 1)
+      ∷ within_call 10 Local ∷ within_call 11 (Send 0) ∷ within_call 10 Local ∷ within_call 11 (Send 0) ∷ []
   pub calls : callees program 0 ≡ 1 ∷ []
   pub checked : first_recursive program ≡ None
 

@@ -137,7 +137,9 @@ fn action_fits(parts: &Parts, what: &What, deep: u8) -> bool
 }
 
 fn functions_fit(parts: &Parts) -> bool
-    ensures { IsTrue result ↔ ((length parts.now.functions ≤ most_functions) × AreNames (map (λ (f : Function). f.name) parts.now.functions) × All (λ f. AreStatements parts.now most_bodies f.body) parts.now.functions) }
+    ensures { IsTrue result ↔ ((length parts.now.functions ≤ most_functions)
+        × AreNames (map (λ (f : Function). f.name) parts.now.functions)
+        × All (λ f. AreStatements parts.now most_bodies f.body) parts.now.functions) }
 {
     let functions = parts.functions.as_slice();
     functions.len() <= limits::FUNCTIONS
@@ -146,7 +148,9 @@ fn functions_fit(parts: &Parts) -> bool
 }
 
 fn channels_fit(channels: &[ChannelDecl]) -> bool
-    ensures { IsTrue result ↔ ((length channels.now ≤ most_channels) × AreNames (map (λ (c : ChannelDecl). c.name) channels.now) × All (λ c. c.capacity ≤ most_capacity) channels.now) }
+    ensures { IsTrue result ↔ ((length channels.now ≤ most_channels)
+        × AreNames (map (λ (c : ChannelDecl). c.name) channels.now)
+        × All (λ c. c.capacity ≤ most_capacity) channels.now) }
 {
     channels.len() <= limits::CHANNELS
         && names_fit(channels)
@@ -160,7 +164,9 @@ fn mutexes_fit(mutexes: &[MutexDecl]) -> bool
 }
 
 fn labels_fit(labels: &[LabelSet]) -> bool
-    ensures { IsTrue result ↔ ((length labels.now ≤ most_label_sets) × AreNames (map (λ (l : LabelSet). l.name) labels.now) × All (λ l. ArePairs l.pairs) labels.now) }
+    ensures { IsTrue result ↔ ((length labels.now ≤ most_label_sets)
+        × AreNames (map (λ (l : LabelSet). l.name) labels.now)
+        × All (λ l. ArePairs l.pairs) labels.now) }
 {
     labels.len() <= limits::LABEL_SETS
         && names_fit(labels)

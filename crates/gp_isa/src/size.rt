@@ -104,7 +104,8 @@ fn body_size(body: &[Stmt], deep: u8, sizes: &[Size]) -> Size
 #[cycle(size)]
 fn statement_size(what: &What, deep: u8, sizes: &[Size]) -> Size
     requires { All (λ s. s.frames < 2 ^ 32 - 1) sizes.now }
-    ensures { (calls : ℕ → List Point) (f line : ℕ) → AreSizes sizes.now calls → result ≡ size_of (points_at calls (points_of_body calls f deep) f line (action what.now)) }
+    ensures { (calls : ℕ → List Point) (f line : ℕ) → AreSizes sizes.now calls →
+        result ≡ size_of (points_at calls (points_of_body calls f deep) f line (action what.now)) }
 {
     match what {
         What::Work { n } => Size::work(*n),
@@ -137,7 +138,8 @@ fn size_at(sizes: &[Size], f: u32) -> Size
 fn deeper_sizes(alloc: Global, parts: &Parts, sizes: &[Size]) -> Result<Vec<Size>, Memory>
     requires { All (λ s. s.frames < 2 ^ 32 - 1) sizes.now }
     ensures len { IfOk result (λ deeper. length deeper.items ≡ length parts.now.functions) }
-    ensures sizes { IfOk result (λ deeper. (calls : ℕ → List Point) → AreSizes sizes.now calls → AreSizes deeper.items (points_of parts.now calls)) }
+    ensures sizes { IfOk result (λ deeper. (calls : ℕ → List Point) → AreSizes sizes.now calls →
+        AreSizes deeper.items (points_of parts.now calls)) }
 {
     let mut deeper = Vec::new(alloc);
     for function in parts.functions.as_slice() {

@@ -26,17 +26,20 @@ around items k o some within is =
     let next : k - 1 + 1 ≡ k = omega arith in
     ap (λ n. reverse (take n items)) (sym next) ∙ above items (k - 1) o (omega arith) is
 
-at_level : (place : Place) (climb : Climb) (o : Level) → 0 < climb.level → climb.level ≤ length place.outer.items → o ≡ get_or place.outer.items (climb.level - 1) o → reverse (take climb.level place.outer.items) ≡ o ∷ reverse (take (climb.level - 1) place.outer.items)
+at_level : (place : Place) (climb : Climb) (o : Level) → 0 < climb.level → climb.level ≤ length place.outer.items → o ≡ get_or place.outer.items (climb.level - 1) o →
+    reverse (take climb.level place.outer.items) ≡ o ∷ reverse (take (climb.level - 1) place.outer.items)
 at_level place climb o some within is =
     let next : climb.level - 1 + 1 ≡ climb.level = omega arith in
     ap (λ n. reverse (take n place.outer.items)) (sym next) ∙ above place.outer.items (climb.level - 1) o (omega arith) is
 
-pub climb_called : (parts : Parts) (place : Place) (climb : Climb) (o : Level) → climb.called ≡ true → 0 < climb.level → climb.level ≤ length place.outer.items → o ≡ get_or place.outer.items (climb.level - 1) o → frames_left parts place climb ≡ frame_of parts o (reverse (take (climb.level - 1) place.outer.items)) ∷ frames_left parts place (record { level = climb.level - 1; called = is_base o })
+pub climb_called : (parts : Parts) (place : Place) (climb : Climb) (o : Level) → climb.called ≡ true → 0 < climb.level → climb.level ≤ length place.outer.items → o ≡ get_or place.outer.items (climb.level - 1) o →
+    frames_left parts place climb ≡ frame_of parts o (reverse (take (climb.level - 1) place.outer.items)) ∷ frames_left parts place (record { level = climb.level - 1; called = is_base o })
 unfolding frames_left
 climb_called parts place climb o called some within is =
     rw (called, at_level place climb o some within is) (callers_called parts o (reverse (take (climb.level - 1) place.outer.items)))
 
-pub climb_looped : (parts : Parts) (place : Place) (climb : Climb) (o : Level) → climb.called ≡ false → 0 < climb.level → climb.level ≤ length place.outer.items → o ≡ get_or place.outer.items (climb.level - 1) o → frames_left parts place climb ≡ frames_left parts place (record { level = climb.level - 1; called = is_base o })
+pub climb_looped : (parts : Parts) (place : Place) (climb : Climb) (o : Level) → climb.called ≡ false → 0 < climb.level → climb.level ≤ length place.outer.items → o ≡ get_or place.outer.items (climb.level - 1) o →
+    frames_left parts place climb ≡ frames_left parts place (record { level = climb.level - 1; called = is_base o })
 unfolding frames_left
 climb_looped parts place climb o called some within is =
     rw (called, at_level place climb o some within is) (callers_looped parts o (reverse (take (climb.level - 1) place.outer.items)))

@@ -68,7 +68,8 @@ loop_here : (parts : Parts) (level : Level) (k n : ℕ) (body : List Stmt) → c
 unfolding cost_here
 loop_here parts level k n body = rw (drop_all (length body) body (omega arith), body_nil (cost_of_call parts level.calls) k) (omega arith)
 
-pub cost_loop : (parts : Parts) (level : Level) (outer : List Level) (k n end : ℕ) (body : List Stmt) → level.loops ≡ suc k → level.loops ≤ 8 → Does (body_at parts level outer) level.at (Loop n body end) → cost parts (loop_level level k n body ∷ stepped (level ∷ outer)) < cost parts (level ∷ outer)
+pub cost_loop : (parts : Parts) (level : Level) (outer : List Level) (k n end : ℕ) (body : List Stmt) → level.loops ≡ suc k → level.loops ≤ 8 → Does (body_at parts level outer) level.at (Loop n body end) →
+    cost parts (loop_level level k n body ∷ stepped (level ∷ outer)) < cost parts (level ∷ outer)
 cost_loop parts level outer k n end body loops few d =
     let new : Level = loop_level level k n body in
     let inner : is_base new ≡ false = base_false new (λ e. omega arith) in
@@ -99,7 +100,8 @@ here_end : (parts : Parts) (level : Level) (body : List Stmt) → length body �
 unfolding cost_here
 here_end parts level body past = rw (drop_all level.at body past, body_nil (cost_of_call parts level.calls) level.loops) (omega arith)
 
-here_turn : (parts : Parts) (level : Level) (body : List Stmt) (n : ℕ) → cost_here parts (record level { at = 0; turns = n }) body ≡ cost_of_body (cost_of_call parts level.calls) level.loops body + n * (1 + cost_of_body (cost_of_call parts level.calls) level.loops body) + 1
+here_turn : (parts : Parts) (level : Level) (body : List Stmt) (n : ℕ) → cost_here parts (record level { at = 0; turns = n }) body ≡ cost_of_body (cost_of_call parts level.calls) level.loops body + n *
+    (1 + cost_of_body (cost_of_call parts level.calls) level.loops body) + 1
 unfolding cost_here
 here_turn parts level body n = refl
 

@@ -82,7 +82,8 @@ agree_loop : (n most : ℕ) (points whole : List Point) → (most_frames whole �
 agree_loop zero most points whole same few = refl
 agree_loop (suc n) most points whole same few = ap (repeated (suc n)) (same (repeated_few n (most + 1) whole few))
 
-agree_at : (calls whole : ℕ → List Point) (most : ℕ) → Agree calls whole most → (inner inside : List Stmt → List Point) → AgreeInside inner inside most → (f line : ℕ) (a : Action) → most_frames (points_at whole inside f line a) ≤ most + 1 → points_at calls inner f line a ≡ points_at whole inside f line a
+agree_at : (calls whole : ℕ → List Point) (most : ℕ) → Agree calls whole most → (inner inside : List Stmt → List Point) → AgreeInside inner inside most → (f line : ℕ) (a : Action) → most_frames (points_at whole inside f line a) ≤ most + 1 →
+    points_at calls inner f line a ≡ points_at whole inside f line a
 agree_at calls whole most agree inner inside loops f line (Work n) few = refl
 agree_at calls whole most agree inner inside loops f line (Labels s) few = refl
 agree_at calls whole most agree inner inside loops f line (Loop n body end) few = agree_loop n most (inner body) (inside body) (loops body) few
@@ -93,7 +94,8 @@ agree_at calls whole most agree inner inside loops f line (Lock m) few = refl
 agree_at calls whole most agree inner inside loops f line (Unlock m) few = refl
 agree_at calls whole most agree inner inside loops f line (Spawn h) few = refl
 
-agree_list : (calls whole : ℕ → List Point) (most : ℕ) → Agree calls whole most → (inner inside : List Stmt → List Point) → AgreeInside inner inside most → (f : ℕ) (body : List Stmt) → most_frames (flat_map (λ s. points_at whole inside f (line_of s) (action_of s)) body) ≤ most + 1 → flat_map (λ s. points_at calls inner f (line_of s) (action_of s)) body ≡ flat_map (λ s. points_at whole inside f (line_of s) (action_of s)) body
+agree_list : (calls whole : ℕ → List Point) (most : ℕ) → Agree calls whole most → (inner inside : List Stmt → List Point) → AgreeInside inner inside most → (f : ℕ) (body : List Stmt) →
+    most_frames (flat_map (λ s. points_at whole inside f (line_of s) (action_of s)) body) ≤ most + 1 → flat_map (λ s. points_at calls inner f (line_of s) (action_of s)) body ≡ flat_map (λ s. points_at whole inside f (line_of s) (action_of s)) body
 agree_list calls whole most agree inner inside loops f [] few = refl
 agree_list calls whole most agree inner inside loops f (s ∷ body) few =
     let first : List Point = points_at whole inside f (line_of s) (action_of s) in

@@ -38,7 +38,8 @@ does_at body at within =
     let f : (s : Stmt) × (slice_get body at ≡ Some s) = found body at within in
     (action_of f.0, record { statement = f.0; stands = f.1; does = refl })
 
-on_split : (parts : Parts) (calls loops f : ℕ) (body : List Stmt) (at : ℕ) (a : Action) (d : Does body at a) → steps (points_of_all parts calls loops f (drop at body)) ≡ steps (points_of_action parts calls loops f (line_of d.statement) a) ++ steps (points_of_all parts calls loops f (drop (at + 1) body))
+on_split : (parts : Parts) (calls loops f : ℕ) (body : List Stmt) (at : ℕ) (a : Action) (d : Does body at a) → steps (points_of_all parts calls loops f (drop at body)) ≡ steps (points_of_action parts calls loops f (line_of d.statement) a) ++ steps
+    (points_of_all parts calls loops f (drop (at + 1) body))
 unfolding points_of_action points_of_all
 on_split parts calls loops f body at a d =
     let next : drop at body ≡ d.statement ∷ drop (suc at) body = drop_at body at d.statement d.stands in
@@ -57,21 +58,26 @@ seen_few parts calls loops body at limit local seen within looked =
     let d : (a : Action) × Does body at a = does_at body at within in
     rw (looked 0 0 d.0 d.1) (peek_le (steps (points_of_action parts calls loops 0 0 d.0)) (limit - local))
 
-pub seen_on : (parts : Parts) (calls loops : ℕ) (body : List Stmt) (from at limit local : ℕ) (seen : Peek) → at < length body → Looked parts calls loops body at seen (limit - local) → SeesOn parts calls loops body from at limit local → seen.then ≡ Over → SeesOn parts calls loops body from (at + 1) limit (local + seen.local)
+pub seen_on : (parts : Parts) (calls loops : ℕ) (body : List Stmt) (from at limit local : ℕ) (seen : Peek) → at < length body → Looked parts calls loops body at seen (limit - local) → SeesOn parts calls loops body from at limit local →
+    seen.then ≡ Over → SeesOn parts calls loops body from (at + 1) limit (local + seen.local)
 seen_on parts calls loops body from at limit local seen within looked sees over f =
     let d : (a : Action) × Does body at a = does_at body at within in
-    sees_on (steps (points_of_all parts calls loops f (drop from body))) (steps (points_of_all parts calls loops f (drop at body))) (steps (points_of_action parts calls loops f (line_of d.1.statement) d.0)) (steps (points_of_all parts calls loops f (drop (at + 1) body))) limit local seen (sees f) (on_split parts calls loops f body at d.0 d.1) (looked f (line_of d.1.statement) d.0 d.1) over
+    sees_on (steps (points_of_all parts calls loops f (drop from body))) (steps (points_of_all parts calls loops f (drop at body))) (steps (points_of_action parts calls loops f (line_of d.1.statement) d.0))
+    (steps (points_of_all parts calls loops f (drop (at + 1) body))) limit local seen (sees f) (on_split parts calls loops f body at d.0 d.1) (looked f (line_of d.1.statement) d.0 d.1) over
 
-pub seen_stop : (parts : Parts) (calls loops : ℕ) (body : List Stmt) (from at limit local : ℕ) (seen : Peek) → at < length body → Looked parts calls loops body at seen (limit - local) → SeesOn parts calls loops body from at limit local → (seen.then ≡ Over → ⊥) → (f : ℕ) → record { local = local + seen.local; then = seen.then } ≡ peek_of (steps (points_of_all parts calls loops f (drop from body))) limit
+pub seen_stop : (parts : Parts) (calls loops : ℕ) (body : List Stmt) (from at limit local : ℕ) (seen : Peek) → at < length body → Looked parts calls loops body at seen (limit - local) → SeesOn parts calls loops body from at limit local →
+    (seen.then ≡ Over → ⊥) → (f : ℕ) → record { local = local + seen.local; then = seen.then } ≡ peek_of (steps (points_of_all parts calls loops f (drop from body))) limit
 seen_stop parts calls loops body from at limit local seen within looked sees more f =
     let d : (a : Action) × Does body at a = does_at body at within in
-    sees_stop (steps (points_of_all parts calls loops f (drop from body))) (steps (points_of_all parts calls loops f (drop at body))) (steps (points_of_action parts calls loops f (line_of d.1.statement) d.0)) (steps (points_of_all parts calls loops f (drop (at + 1) body))) limit local seen (sees f) (on_split parts calls loops f body at d.0 d.1) (looked f (line_of d.1.statement) d.0 d.1) more
+    sees_stop (steps (points_of_all parts calls loops f (drop from body))) (steps (points_of_all parts calls loops f (drop at body))) (steps (points_of_action parts calls loops f (line_of d.1.statement) d.0))
+    (steps (points_of_all parts calls loops f (drop (at + 1) body))) limit local seen (sees f) (on_split parts calls loops f body at d.0 d.1) (looked f (line_of d.1.statement) d.0 d.1) more
 
 all_nil : (parts : Parts) (calls loops f : ℕ) → points_of_all parts calls loops f [] ≡ []
 unfolding points_of_all
 all_nil parts calls loops f = body_nil (points_of_call parts calls) f loops
 
-pub seen_end : (parts : Parts) (calls loops : ℕ) (body : List Stmt) (from at limit local : ℕ) → length body ≤ at → SeesOn parts calls loops body from at limit local → (f : ℕ) → record { local = local; then = Over } ≡ peek_of (steps (points_of_all parts calls loops f (drop from body))) limit
+pub seen_end : (parts : Parts) (calls loops : ℕ) (body : List Stmt) (from at limit local : ℕ) → length body ≤ at → SeesOn parts calls loops body from at limit local → (f : ℕ) →
+    record { local = local; then = Over } ≡ peek_of (steps (points_of_all parts calls loops f (drop from body))) limit
 seen_end parts calls loops body from at limit local past sees f =
     let none : points_of_all parts calls loops f (drop at body) ≡ [] = ap (points_of_all parts calls loops f) (drop_all at body past) ∙ all_nil parts calls loops f in
     sees_end (steps (points_of_all parts calls loops f (drop from body))) limit local (subst (λ rest. Sees (steps (points_of_all parts calls loops f (drop from body))) limit local (steps rest)) none (sees f))
@@ -88,17 +94,23 @@ pub turn_few : (parts : Parts) (calls loops : ℕ) (body : List Stmt) (limit loc
 turn_few parts calls loops body limit local seen looked =
     rw (looked 0) (peek_le (steps (points_of_all parts calls loops 0 body)) (limit - local))
 
-pub turn_on : (parts : Parts) (calls loops : ℕ) (body : List Stmt) (n turns limit local : ℕ) (seen : Peek) → 0 < turns → ((f : ℕ) → seen ≡ peek_of (steps (points_of_all parts calls loops f body)) (limit - local)) → SeesTurns parts calls loops body n turns limit local → seen.then ≡ Over → SeesTurns parts calls loops body n (turns - 1) limit (local + seen.local)
+pub turn_on : (parts : Parts) (calls loops : ℕ) (body : List Stmt) (n turns limit local : ℕ) (seen : Peek) → 0 < turns → ((f : ℕ) → seen ≡ peek_of (steps (points_of_all parts calls loops f body)) (limit - local)) →
+    SeesTurns parts calls loops body n turns limit local → seen.then ≡ Over → SeesTurns parts calls loops body n (turns - 1) limit (local + seen.local)
 turn_on parts calls loops body n turns limit local seen some looked sees over f =
-    sees_on (steps (repeated n (points_of_all parts calls loops f body))) (steps (repeated turns (points_of_all parts calls loops f body))) (steps (points_of_all parts calls loops f body)) (steps (repeated (turns - 1) (points_of_all parts calls loops f body))) limit local seen (sees f) (turn_split (points_of_all parts calls loops f body) turns some) (looked f) over
+    sees_on (steps (repeated n (points_of_all parts calls loops f body))) (steps (repeated turns (points_of_all parts calls loops f body))) (steps (points_of_all parts calls loops f body))
+    (steps (repeated (turns - 1) (points_of_all parts calls loops f body))) limit local seen (sees f) (turn_split (points_of_all parts calls loops f body) turns some) (looked f) over
 
-pub turn_stop : (parts : Parts) (calls loops : ℕ) (body : List Stmt) (n turns limit local : ℕ) (seen : Peek) → 0 < turns → ((f : ℕ) → seen ≡ peek_of (steps (points_of_all parts calls loops f body)) (limit - local)) → SeesTurns parts calls loops body n turns limit local → (seen.then ≡ Over → ⊥) → (f : ℕ) → record { local = local + seen.local; then = seen.then } ≡ peek_of (steps (repeated n (points_of_all parts calls loops f body))) limit
+pub turn_stop : (parts : Parts) (calls loops : ℕ) (body : List Stmt) (n turns limit local : ℕ) (seen : Peek) → 0 < turns → ((f : ℕ) → seen ≡ peek_of (steps (points_of_all parts calls loops f body)) (limit - local)) →
+    SeesTurns parts calls loops body n turns limit local → (seen.then ≡ Over → ⊥) → (f : ℕ) → record { local = local + seen.local; then = seen.then } ≡ peek_of (steps (repeated n (points_of_all parts calls loops f body))) limit
 turn_stop parts calls loops body n turns limit local seen some looked sees more f =
-    sees_stop (steps (repeated n (points_of_all parts calls loops f body))) (steps (repeated turns (points_of_all parts calls loops f body))) (steps (points_of_all parts calls loops f body)) (steps (repeated (turns - 1) (points_of_all parts calls loops f body))) limit local seen (sees f) (turn_split (points_of_all parts calls loops f body) turns some) (looked f) more
+    sees_stop (steps (repeated n (points_of_all parts calls loops f body))) (steps (repeated turns (points_of_all parts calls loops f body))) (steps (points_of_all parts calls loops f body))
+    (steps (repeated (turns - 1) (points_of_all parts calls loops f body))) limit local seen (sees f) (turn_split (points_of_all parts calls loops f body) turns some) (looked f) more
 
-pub turn_end : (parts : Parts) (calls loops : ℕ) (body : List Stmt) (n turns limit local : ℕ) → turns ≡ 0 → SeesTurns parts calls loops body n turns limit local → (f : ℕ) → record { local = local; then = Over } ≡ peek_of (steps (repeated n (points_of_all parts calls loops f body))) limit
+pub turn_end : (parts : Parts) (calls loops : ℕ) (body : List Stmt) (n turns limit local : ℕ) → turns ≡ 0 → SeesTurns parts calls loops body n turns limit local → (f : ℕ) →
+    record { local = local; then = Over } ≡ peek_of (steps (repeated n (points_of_all parts calls loops f body))) limit
 turn_end parts calls loops body n turns limit local none sees f =
-    sees_end (steps (repeated n (points_of_all parts calls loops f body))) limit local (subst (λ t. Sees (steps (repeated n (points_of_all parts calls loops f body))) limit local (steps (repeated t (points_of_all parts calls loops f body)))) none (sees f))
+    sees_end (steps (repeated n (points_of_all parts calls loops f body))) limit local (subst (λ t. Sees (steps (repeated n (points_of_all parts calls loops f body))) limit local (steps (repeated t (points_of_all parts calls loops f body)))) none
+    (sees f))
 
 -- what stands at a place is one statement
 known : (P : Action → Type 0) (body : List Stmt) (at : ℕ) (b : Action) → Does body at b → P b → (a : Action) → Does body at a → P a
@@ -143,7 +155,8 @@ pub at_shared : (parts : Parts) (calls loops : ℕ) (body : List Stmt) (at limit
 at_shared parts calls loops body at limit o d f line =
     known (LookedAs parts calls loops (record { local = 0; then = Shared o }) limit f line) body at (action_of_operation o) d (ap (λ xs. peek_of xs limit) (sym (action_shared parts calls loops f line o)))
 
-no_points : (parts : Parts) (calls loops : ℕ) (body : List Stmt) (at limit : ℕ) (b : Action) → Does body at b → ((f line : ℕ) → points_of_action parts calls loops f line b ≡ []) → Looked parts calls loops body at (record { local = 0; then = Over }) limit
+no_points : (parts : Parts) (calls loops : ℕ) (body : List Stmt) (at limit : ℕ) (b : Action) → Does body at b → ((f line : ℕ) → points_of_action parts calls loops f line b ≡ []) →
+    Looked parts calls loops body at (record { local = 0; then = Over }) limit
 no_points parts calls loops body at limit b d none f line =
     known (LookedAs parts calls loops (record { local = 0; then = Over }) limit f line) body at b d (ap (λ xs. peek_of (steps xs) limit) (sym (none f line)))
 
@@ -160,7 +173,8 @@ unfolding points_of_action points_of_all
 action_loop parts calls zero f line n end inner some = absurd (omega arith)
 action_loop parts calls (suc loops) f line n end inner some = let same : suc loops - 1 ≡ loops = omega arith in rw same refl
 
-pub at_loop : (parts : Parts) (calls loops : ℕ) (body : List Stmt) (at limit n : ℕ) (inner : List Stmt) (seen : Peek) → (end : ℕ) × Does body at (Loop n inner end) → 0 < loops → ((f : ℕ) → seen ≡ peek_of (steps (repeated n (points_of_all parts calls (loops - 1) f inner))) limit) → Looked parts calls loops body at seen limit
+pub at_loop : (parts : Parts) (calls loops : ℕ) (body : List Stmt) (at limit n : ℕ) (inner : List Stmt) (seen : Peek) → (end : ℕ) × Does body at (Loop n inner end) → 0 < loops →
+    ((f : ℕ) → seen ≡ peek_of (steps (repeated n (points_of_all parts calls (loops - 1) f inner))) limit) → Looked parts calls loops body at seen limit
 at_loop parts calls loops body at limit n inner seen d some is f line =
     known (LookedAs parts calls loops seen limit f line) body at (Loop n inner d.0) d.1 (is f ∙ ap (λ xs. peek_of (steps xs) limit) (action_loop parts calls loops f line n d.0 inner some))
 
@@ -185,7 +199,8 @@ action_call : (parts : Parts) (calls loops f line h : ℕ) → steps (points_of_
 unfolding points_of_action
 action_call parts calls loops f line h = steps_called (record { function = f; line = line } ∷ []) (points_of_call parts calls h)
 
-pub at_call : (parts : Parts) (calls loops : ℕ) (body : List Stmt) (at limit h : ℕ) (called : List Stmt) (seen : Peek) → Does body at (Call h) → 0 < calls → called ≡ body_of parts h → ((f : ℕ) → seen ≡ peek_of (steps (points_of_all parts (calls - 1) 8 f (drop 0 called))) limit) → Looked parts calls loops body at seen limit
+pub at_call : (parts : Parts) (calls loops : ℕ) (body : List Stmt) (at limit h : ℕ) (called : List Stmt) (seen : Peek) → Does body at (Call h) → 0 < calls → called ≡ body_of parts h →
+    ((f : ℕ) → seen ≡ peek_of (steps (points_of_all parts (calls - 1) 8 f (drop 0 called))) limit) → Looked parts calls loops body at seen limit
 at_call parts calls loops body at limit h called seen d some same is f line =
     known (LookedAs parts calls loops seen limit f line) body at (Call h) d
     (is h ∙ (ap (λ b. peek_of (steps (points_of_all parts (calls - 1) 8 h (drop 0 b))) limit) same ∙ ap (λ xs. peek_of xs limit) (ap steps (call_points parts calls h some) ∙ sym (action_call parts calls loops f line h))))
@@ -199,11 +214,15 @@ unfolding left_here points_of_all
 level_split parts level body =
     map-append (λ point. operation_of point.instruction) (points_of_all parts level.calls level.loops level.function (drop level.at body)) (repeated level.turns (points_of_all parts level.calls level.loops level.function body))
 
-pub level_stop : (parts : Parts) (level : Level) (body other : List Stmt) (limit : ℕ) (first : Peek) → body ≡ other → ((f : ℕ) → first ≡ peek_of (steps (points_of_all parts level.calls level.loops f (drop level.at body))) limit) → (first.then ≡ Over → ⊥) → first ≡ peek_of (steps (left_here parts level other)) limit
+pub level_stop : (parts : Parts) (level : Level) (body other : List Stmt) (limit : ℕ) (first : Peek) → body ≡ other → ((f : ℕ) → first ≡ peek_of (steps (points_of_all parts level.calls level.loops f (drop level.at body))) limit) →
+    (first.then ≡ Over → ⊥) → first ≡ peek_of (steps (left_here parts level other)) limit
 level_stop parts level body other limit first same is more =
-    rw (← same, level_split parts level body) (is level.function ∙ sym (peek_stop (steps (of_level parts level (drop level.at body))) (steps (repeated level.turns (of_level parts level body))) limit (λ e. more (ap (λ p. p.then) (is level.function) ∙ e))))
+    rw (← same, level_split parts level body)
+    (is level.function ∙ sym (peek_stop (steps (of_level parts level (drop level.at body))) (steps (repeated level.turns (of_level parts level body))) limit (λ e. more (ap (λ p. p.then) (is level.function) ∙ e))))
 
-pub level_on : (parts : Parts) (level : Level) (body other : List Stmt) (limit : ℕ) (first again : Peek) → body ≡ other → ((f : ℕ) → first ≡ peek_of (steps (points_of_all parts level.calls level.loops f (drop level.at body))) limit) → first.then ≡ Over → ((f : ℕ) → again ≡ peek_of (steps (repeated level.turns (points_of_all parts level.calls level.loops f body))) (limit - first.local)) → record { local = first.local + again.local; then = again.then } ≡ peek_of (steps (left_here parts level other)) limit
+pub level_on : (parts : Parts) (level : Level) (body other : List Stmt) (limit : ℕ) (first again : Peek) → body ≡ other → ((f : ℕ) → first ≡ peek_of (steps (points_of_all parts level.calls level.loops f (drop level.at body))) limit) →
+    first.then ≡ Over → ((f : ℕ) → again ≡ peek_of (steps (repeated level.turns (points_of_all parts level.calls level.loops f body))) (limit - first.local)) →
+    record { local = first.local + again.local; then = again.then } ≡ peek_of (steps (left_here parts level other)) limit
 level_on parts level body other limit first again same is over turns =
     rw (← same, level_split parts level body) (ap (plus first.local) (turns level.function) ∙
     (ap (λ p. plus p.local (peek_of (steps (repeated level.turns (of_level parts level body))) (limit - p.local))) (is level.function) ∙
@@ -232,19 +251,24 @@ pub first_on : (parts : Parts) (level : Level) (outer : List Level) (limit : ℕ
 first_on parts level outer limit first is over =
     let none : ℕ = 0 in
     let on : Sees (steps (left parts (level ∷ outer))) limit (0 + first.local) (steps (left parts outer)) =
-    sees_on (steps (left parts (level ∷ outer))) (steps (left parts (level ∷ outer))) (steps (left_here parts level (body_at parts level outer))) (steps (left parts outer)) limit 0 first (sees_none (steps (left parts (level ∷ outer))) limit) (levels_split parts level outer) (is ∙ ap (peek_of (steps (left_here parts level (body_at parts level outer)))) (omega arith)) over in
+    sees_on (steps (left parts (level ∷ outer))) (steps (left parts (level ∷ outer))) (steps (left_here parts level (body_at parts level outer))) (steps (left parts outer)) limit 0 first (sees_none (steps (left parts (level ∷ outer))) limit)
+    (levels_split parts level outer) (is ∙ ap (peek_of (steps (left_here parts level (body_at parts level outer)))) (omega arith)) over in
     subst (λ n. Sees (steps (left parts (level ∷ outer))) limit n (steps (left parts outer))) (omega arith) on
 
 pub level_few : (parts : Parts) (level : Level) (outer : List Level) (limit : ℕ) (seen : Peek) → LevelSeen parts level outer seen limit → seen.local ≤ limit
 level_few parts level outer limit seen is = rw is (peek_le (steps (left_here parts level (body_at parts level outer))) limit)
 
-pub outer_on : (parts : Parts) (xs : List (Option Operation)) (items : List Level) (k limit local : ℕ) (o : Level) (seen : Peek) → 0 < k → k ≤ length items → o ≡ get_or items (k - 1) o → LevelSeen parts o (reverse (take (k - 1) items)) seen (limit - local) → Sees xs limit local (steps (left parts (reverse (take k items)))) → seen.then ≡ Over → Sees xs limit (local + seen.local) (steps (left parts (reverse (take (k - 1) items))))
+pub outer_on : (parts : Parts) (xs : List (Option Operation)) (items : List Level) (k limit local : ℕ) (o : Level) (seen : Peek) → 0 < k → k ≤ length items → o ≡ get_or items (k - 1) o →
+    LevelSeen parts o (reverse (take (k - 1) items)) seen (limit - local) → Sees xs limit local (steps (left parts (reverse (take k items)))) → seen.then ≡ Over → Sees xs limit (local + seen.local) (steps (left parts (reverse (take (k - 1) items))))
 outer_on parts xs items k limit local o seen some within is looked sees over =
-    sees_on xs (steps (left parts (reverse (take k items)))) (steps (left_here parts o (body_at parts o (reverse (take (k - 1) items))))) (steps (left parts (reverse (take (k - 1) items)))) limit local seen sees (ap (λ ls. steps (left parts ls)) (around items k o some within is) ∙ levels_split parts o (reverse (take (k - 1) items))) looked over
+    sees_on xs (steps (left parts (reverse (take k items)))) (steps (left_here parts o (body_at parts o (reverse (take (k - 1) items))))) (steps (left parts (reverse (take (k - 1) items)))) limit local seen sees
+    (ap (λ ls. steps (left parts ls)) (around items k o some within is) ∙ levels_split parts o (reverse (take (k - 1) items))) looked over
 
-pub outer_stop : (parts : Parts) (xs : List (Option Operation)) (items : List Level) (k limit local : ℕ) (o : Level) (seen : Peek) → 0 < k → k ≤ length items → o ≡ get_or items (k - 1) o → LevelSeen parts o (reverse (take (k - 1) items)) seen (limit - local) → Sees xs limit local (steps (left parts (reverse (take k items)))) → (seen.then ≡ Over → ⊥) → record { local = local + seen.local; then = seen.then } ≡ peek_of xs limit
+pub outer_stop : (parts : Parts) (xs : List (Option Operation)) (items : List Level) (k limit local : ℕ) (o : Level) (seen : Peek) → 0 < k → k ≤ length items → o ≡ get_or items (k - 1) o →
+    LevelSeen parts o (reverse (take (k - 1) items)) seen (limit - local) → Sees xs limit local (steps (left parts (reverse (take k items)))) → (seen.then ≡ Over → ⊥) → record { local = local + seen.local; then = seen.then } ≡ peek_of xs limit
 outer_stop parts xs items k limit local o seen some within is looked sees more =
-    sees_stop xs (steps (left parts (reverse (take k items)))) (steps (left_here parts o (body_at parts o (reverse (take (k - 1) items))))) (steps (left parts (reverse (take (k - 1) items)))) limit local seen sees (ap (λ ls. steps (left parts ls)) (around items k o some within is) ∙ levels_split parts o (reverse (take (k - 1) items))) looked more
+    sees_stop xs (steps (left parts (reverse (take k items)))) (steps (left_here parts o (body_at parts o (reverse (take (k - 1) items))))) (steps (left parts (reverse (take (k - 1) items)))) limit local seen sees
+    (ap (λ ls. steps (left parts ls)) (around items k o some within is) ∙ levels_split parts o (reverse (take (k - 1) items))) looked more
 
 pub outer_end : (parts : Parts) (xs : List (Option Operation)) (items : List Level) (k limit local : ℕ) → k ≡ 0 → Sees xs limit local (steps (left parts (reverse (take k items)))) → record { local = local; then = Over } ≡ peek_of xs limit
 outer_end parts xs items k limit local none sees =
@@ -256,7 +280,8 @@ fit_inner most k items o some within is fit = subst (Fit most) (around items k o
 pub past_stop : (xs ys : List (Option Operation)) (limit : ℕ) (first : Peek) → (first.then ≡ Over → ⊥) → first ≡ peek_of xs limit → first ≡ peek_of (xs ++ ys) limit
 past_stop xs ys limit first more is = is ∙ sym (peek_stop xs ys limit (λ e. more (ap (λ p. p.then) is ∙ e)))
 
-pub past_on : (xs ys : List (Option Operation)) (limit : ℕ) (first rest : Peek) → first.then ≡ Over → rest ≡ peek_of ys (limit - first.local) → first ≡ peek_of xs limit → record { local = first.local + rest.local; then = rest.then } ≡ peek_of (xs ++ ys) limit
+pub past_on : (xs ys : List (Option Operation)) (limit : ℕ) (first rest : Peek) → first.then ≡ Over → rest ≡ peek_of ys (limit - first.local) → first ≡ peek_of xs limit →
+    record { local = first.local + rest.local; then = rest.then } ≡ peek_of (xs ++ ys) limit
 past_on xs ys limit first rest over found is =
     ap (plus first.local) found ∙ (ap (λ p. plus p.local (peek_of ys (limit - p.local))) is ∙ sym (peek_on xs ys limit (sym (ap (λ p. p.then) is) ∙ over)))
 
@@ -271,7 +296,8 @@ seen_is points count limit seen is = (
 abbrev BodySeen : Parts → Body → Peek → ℕ → Type 0
 BodySeen parts body seen limit = seen ≡ peek_of (steps (drop body.count (trace parts body.start))) limit
 
-pub body_work : (parts : Parts) (body : Body) (n limit : ℕ) (first seen : Peek) → Does (body_at parts body.place.top (reverse body.place.outer.items)) body.place.top.at (Work n) → StandsIn parts body → first ≡ peek_of (replicate (n - body.passed) None) limit → ((xs : List (Option Operation)) → first ≡ peek_of xs limit → seen ≡ peek_of (xs ++ steps (left parts (stepped (levels body.place)))) limit) → BodySeen parts body seen limit
+pub body_work : (parts : Parts) (body : Body) (n limit : ℕ) (first seen : Peek) → Does (body_at parts body.place.top (reverse body.place.outer.items)) body.place.top.at (Work n) → StandsIn parts body →
+    first ≡ peek_of (replicate (n - body.passed) None) limit → ((xs : List (Option Operation)) → first ≡ peek_of xs limit → seen ≡ peek_of (xs ++ steps (left parts (stepped (levels body.place)))) limit) → BodySeen parts body seen limit
 body_work parts body n limit first seen d stands found past =
     let level : Level = body.place.top in
     let outer : List Level = reverse body.place.outer.items in
@@ -283,7 +309,8 @@ body_work parts body n limit first seen d stands found past =
     ap steps next ∙ (map-append (λ point. operation_of point.instruction) (replicate (n - body.passed) p) (left parts (stepped (level ∷ outer))) ∙ ap (λ xs. xs ++ steps (left parts (stepped (level ∷ outer)))) (steps_work (n - body.passed) p refl)) in
     past (replicate (n - body.passed) None) found ∙ ap (λ xs. peek_of xs limit) (sym shown)
 
-pub body_labels : (parts : Parts) (body : Body) (s limit : ℕ) (first seen : Peek) → Does (body_at parts body.place.top (reverse body.place.outer.items)) body.place.top.at (Labels s) → StandsIn parts body → first ≡ peek_of (replicate 1 None) limit → ((xs : List (Option Operation)) → first ≡ peek_of xs limit → seen ≡ peek_of (xs ++ steps (left parts (stepped (levels body.place)))) limit) → BodySeen parts body seen limit
+pub body_labels : (parts : Parts) (body : Body) (s limit : ℕ) (first seen : Peek) → Does (body_at parts body.place.top (reverse body.place.outer.items)) body.place.top.at (Labels s) → StandsIn parts body → first ≡ peek_of (replicate 1 None) limit →
+    ((xs : List (Option Operation)) → first ≡ peek_of xs limit → seen ≡ peek_of (xs ++ steps (left parts (stepped (levels body.place)))) limit) → BodySeen parts body seen limit
 body_labels parts body s limit first seen d stands found past =
     let level : Level = body.place.top in
     let outer : List Level = reverse body.place.outer.items in
@@ -300,7 +327,8 @@ shared_step parts level outer line (operation.Lock n) rest = refl
 shared_step parts level outer line (operation.Unlock n) rest = refl
 shared_step parts level outer line (operation.Spawn n) rest = refl
 
-pub body_shared : (parts : Parts) (body : Body) (o : Operation) (limit : ℕ) → Does (body_at parts body.place.top (reverse body.place.outer.items)) body.place.top.at (action_of_operation o) → StandsIn parts body → BodySeen parts body (record { local = 0; then = Shared o }) limit
+pub body_shared : (parts : Parts) (body : Body) (o : Operation) (limit : ℕ) → Does (body_at parts body.place.top (reverse body.place.outer.items)) body.place.top.at (action_of_operation o) → StandsIn parts body →
+    BodySeen parts body (record { local = 0; then = Shared o }) limit
 body_shared parts body o limit d stands =
     let shown : steps (drop body.count (trace parts body.start)) ≡ Some o ∷ steps (left parts (stepped (levels body.place))) =
     ap steps (next_shared parts body o d stands) ∙ shared_step parts body.place.top (reverse body.place.outer.items) (line_of d.statement) o (left parts (stepped (levels body.place))) in

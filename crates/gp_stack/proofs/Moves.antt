@@ -50,7 +50,8 @@ here_next parts level body a d =
 regrouped : (f : Point → Point) (xs ys zs : List Point) → map f (xs ++ ys) ++ zs ≡ map f xs ++ (map f ys ++ zs)
 regrouped f xs ys zs = rw map-append (append_assoc (map f xs) (map f ys) zs)
 
-pub left_next : (parts : Parts) (level : Level) (outer : List Level) (a : Action) (d : Does (body_at parts level outer) level.at a) → left parts (level ∷ outer) ≡ map (called_from (callers parts (is_base level) outer)) (added parts level (line_of d.statement) a) ++ left parts (stepped (level ∷ outer))
+pub left_next : (parts : Parts) (level : Level) (outer : List Level) (a : Action) (d : Does (body_at parts level outer) level.at a) → left parts (level ∷ outer) ≡ map (called_from (callers parts (is_base level) outer))
+    (added parts level (line_of d.statement) a) ++ left parts (stepped (level ∷ outer))
 unfolding left
 left_next parts level outer a d =
     rw (here_next parts level (body_at parts level outer) a d, body_moved parts level (level.at + 1) outer)
@@ -69,7 +70,8 @@ left_skip parts level outer a d none = sym (left_next parts level outer a d ∙ 
 abbrev pub loop_level : Level → ℕ → ℕ → List Stmt → Level
 loop_level level k n body = record { at = length body; turns = n; calls = level.calls; function = level.function; loops = k }
 
-pub body_of_loop : (parts : Parts) (level new : Level) (outer : List Level) (n end : ℕ) (body : List Stmt) → is_base new ≡ false → Does (body_at parts level outer) level.at (Loop n body end) → body_at parts new (moved level (level.at + 1) ∷ outer) ≡ body
+pub body_of_loop : (parts : Parts) (level new : Level) (outer : List Level) (n end : ℕ) (body : List Stmt) → is_base new ≡ false → Does (body_at parts level outer) level.at (Loop n body end) →
+    body_at parts new (moved level (level.at + 1) ∷ outer) ≡ body
 unfolding body_at
 body_of_loop parts level new outer n end body inner d =
     let same : level.at + 1 - 1 ≡ level.at = omega arith in
@@ -85,7 +87,8 @@ loop_here : (parts : Parts) (level : Level) (k n : ℕ) (body : List Stmt) → l
 unfolding left_here
 loop_here parts level k n body = rw (drop_all (length body) body (omega arith)) refl
 
-pub left_loop : (parts : Parts) (level : Level) (outer : List Level) (k n end : ℕ) (body : List Stmt) → level.loops ≡ suc k → level.loops ≤ 8 → Does (body_at parts level outer) level.at (Loop n body end) → left parts (loop_level level k n body ∷ stepped (level ∷ outer)) ≡ left parts (level ∷ outer)
+pub left_loop : (parts : Parts) (level : Level) (outer : List Level) (k n end : ℕ) (body : List Stmt) → level.loops ≡ suc k → level.loops ≤ 8 → Does (body_at parts level outer) level.at (Loop n body end) →
+    left parts (loop_level level k n body ∷ stepped (level ∷ outer)) ≡ left parts (level ∷ outer)
 left_loop parts level outer k n end body loops few d =
     let new : Level = loop_level level k n body in
     let inner : is_base new ≡ false = base_false new (λ e. omega arith) in
@@ -134,7 +137,8 @@ left_call parts level outer k h calls d =
     let frame : Frame = record { function = level.function; line = line_of d.statement } in
     let points : List Point = trace_within parts k h in
     let in_call : left parts (new ∷ stepped (level ∷ outer)) ≡ map (called_from (frame ∷ callers parts (is_base level) outer)) points ++ left parts (stepped (level ∷ outer)) =
-    left_cons parts new (stepped (level ∷ outer)) ∙ (rw (body_of_call parts level (moved level (level.at + 1) ∷ outer) k h, call_here parts level k h, callers_in_call parts (moved level (level.at + 1)) outer, frame_of_call parts level outer (Call h) d) refl) in
+    left_cons parts new (stepped (level ∷ outer)) ∙
+    (rw (body_of_call parts level (moved level (level.at + 1) ∷ outer) k h, call_here parts level k h, callers_in_call parts (moved level (level.at + 1)) outer, frame_of_call parts level outer (Call h) d) refl) in
     let adds : added parts level (line_of d.statement) (Call h) ≡ map (called_at level.function (line_of d.statement)) points = rw calls refl in
     in_call ∙ sym (left_next parts level outer (Call h) d ∙ (rw (adds, map_called level.function (line_of d.statement) (callers parts (is_base level) outer) points) refl))
 
@@ -198,5 +202,6 @@ unfolding trace
 left_begin parts f calls outer all none =
     let level : Level = record { at = 0; turns = 0; calls = calls; function = f; loops = 8 } in
     let begun : left parts (level ∷ []) ≡ trace_within parts calls f =
-    left_cons parts level [] ∙ (rw (left_none parts, no_callers parts (is_base level), body_of_call parts level [] calls f, call_here parts level calls f) (append-nil (map (called_from []) (trace_within parts calls f)) ∙ map_no_callers (trace_within parts calls f))) in
+    left_cons parts level [] ∙ (rw (left_none parts, no_callers parts (is_base level), body_of_call parts level [] calls f, call_here parts level calls f) (append-nil (map (called_from []) (trace_within parts calls f)) ∙
+    map_no_callers (trace_within parts calls f))) in
     ap (λ ls. left parts (level ∷ reverse ls)) none ∙ (begun ∙ all)

@@ -110,7 +110,8 @@ peek_local (p ∷ points) limit =
     kinds (λ b o. (peek_of (o ∷ steps points) limit).local ≡ min limit (cond b (1 + prefix_len (λ point. is_local point.instruction) points) 0))
     (at_local limit (λ l. peek_local points l)) (λ o. omega arith) p.instruction
   where
-    at_local : (l : ℕ) → ((k : ℕ) → (peek_of (steps points) k).local ≡ min k (prefix_len (λ point. is_local point.instruction) points)) → (one_local l (peek_of (steps points))).local ≡ min l (1 + prefix_len (λ point. is_local point.instruction) points)
+    at_local : (l : ℕ) → ((k : ℕ) → (peek_of (steps points) k).local ≡ min k (prefix_len (λ point. is_local point.instruction) points)) →
+        (one_local l (peek_of (steps points))).local ≡ min l (1 + prefix_len (λ point. is_local point.instruction) points)
     at_local zero r = omega arith
     at_local (suc k) r = let h : (peek_of (steps points) k).local ≡ min k (prefix_len (λ point. is_local point.instruction) points) = r k in omega arith
 
@@ -120,6 +121,7 @@ peek_then (p ∷ points) limit =
     kinds (λ b o. operation_of p.instruction ≡ o → (peek_of (o ∷ steps points) limit).then ≡ first_of (drop (peek_of (o ∷ steps points) limit).local (p ∷ points)))
     (λ e. at_local limit e (λ l. peek_then points l)) (λ o e. ap then_is (sym e)) p.instruction refl
   where
-    at_local : (l : ℕ) → operation_of p.instruction ≡ None → ((k : ℕ) → (peek_of (steps points) k).then ≡ first_of (drop (peek_of (steps points) k).local points)) → (one_local l (peek_of (steps points))).then ≡ first_of (drop (one_local l (peek_of (steps points))).local (p ∷ points))
+    at_local : (l : ℕ) → operation_of p.instruction ≡ None → ((k : ℕ) → (peek_of (steps points) k).then ≡ first_of (drop (peek_of (steps points) k).local points)) →
+        (one_local l (peek_of (steps points))).then ≡ first_of (drop (one_local l (peek_of (steps points))).local (p ∷ points))
     at_local zero e r = ap then_is (sym e)
     at_local (suc k) e r = let same : (peek_of (steps points) k).local + 1 ≡ suc (peek_of (steps points) k).local = omega arith in rw same (r k)

@@ -45,7 +45,8 @@ called_some (suc calls) f level outer some = let same : suc calls - 1 ≡ calls 
 pub called_none : (calls f : ℕ) (level : Level) (outer : List Level) → calls ≡ 0 → stepped (level ∷ outer) ≡ called calls f level outer
 called_none calls f level outer none = rw none refl
 
-pub left_end : (parts : Parts) (level : Level) (outer levels : List Level) (b : Bool) → length (body_at parts level outer) ≤ level.at → OnTrue b (levels ≡ left_behind (level ∷ outer)) → OnFalse b (levels ≡ level ∷ outer) → left parts levels ≡ left parts (level ∷ outer)
+pub left_end : (parts : Parts) (level : Level) (outer levels : List Level) (b : Bool) → length (body_at parts level outer) ≤ level.at → OnTrue b (levels ≡ left_behind (level ∷ outer)) → OnFalse b (levels ≡ level ∷ outer) →
+    left parts levels ≡ left parts (level ∷ outer)
 left_end parts level outer levels true past left stays = rw left (left_turned parts level outer level.turns past refl)
 left_end parts level outer levels false past left stays = rw stays refl
 
@@ -53,12 +54,14 @@ pub falls_end : (parts : Parts) (level : Level) (outer levels : List Level) (b :
 falls_end parts level outer levels true past left = rw left (cost_turned parts level outer level.turns past refl)
 falls_end parts level outer levels false past left = tt
 
-pub left_looped : (parts : Parts) (level : Level) (outer : List Level) (loops n : ℕ) (body : List Stmt) → level.loops ≡ loops → level.loops ≤ 8 → (end : ℕ) × Does (body_at parts level outer) level.at (Loop n body end) → left parts (looped loops n (length body) level outer) ≡ left parts (level ∷ outer)
+pub left_looped : (parts : Parts) (level : Level) (outer : List Level) (loops n : ℕ) (body : List Stmt) → level.loops ≡ loops → level.loops ≤ 8 → (end : ℕ) × Does (body_at parts level outer) level.at (Loop n body end) →
+    left parts (looped loops n (length body) level outer) ≡ left parts (level ∷ outer)
 left_looped parts level outer zero n body e few d =
     left_skip parts level outer (Loop n body d.0) d.1 (added_no_loop parts level (line_of d.1.statement) n d.0 body e)
 left_looped parts level outer (suc loops) n body e few d = left_loop parts level outer loops n d.0 body e few d.1
 
-pub cost_looped : (parts : Parts) (level : Level) (outer : List Level) (loops n : ℕ) (body : List Stmt) → level.loops ≡ loops → level.loops ≤ 8 → (end : ℕ) × Does (body_at parts level outer) level.at (Loop n body end) → cost parts (looped loops n (length body) level outer) < cost parts (level ∷ outer)
+pub cost_looped : (parts : Parts) (level : Level) (outer : List Level) (loops n : ℕ) (body : List Stmt) → level.loops ≡ loops → level.loops ≤ 8 → (end : ℕ) × Does (body_at parts level outer) level.at (Loop n body end) →
+    cost parts (looped loops n (length body) level outer) < cost parts (level ∷ outer)
 cost_looped parts level outer zero n body e few d = cost_skip parts level outer (Loop n body d.0) d.1
 cost_looped parts level outer (suc loops) n body e few d = cost_loop parts level outer loops n d.0 body e few d.1
 

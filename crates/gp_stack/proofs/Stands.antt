@@ -70,7 +70,8 @@ map_replicate : (f : Point → Point) (n : ℕ) (p : Point) → map f (replicate
 map_replicate f zero p = refl
 map_replicate f (suc n) p = ap (λ xs. f p ∷ xs) (map_replicate f n p)
 
-pub next_work : (parts : Parts) (level : Level) (outer : List Level) (n : ℕ) (d : Does (body_at parts level outer) level.at (Work n)) → left parts (level ∷ outer) ≡ replicate n (called_from (callers parts (is_base level) outer) (point_at level.function (line_of d.statement) Local)) ++ left parts (stepped (level ∷ outer))
+pub next_work : (parts : Parts) (level : Level) (outer : List Level) (n : ℕ) (d : Does (body_at parts level outer) level.at (Work n)) →
+    left parts (level ∷ outer) ≡ replicate n (called_from (callers parts (is_base level) outer) (point_at level.function (line_of d.statement) Local)) ++ left parts (stepped (level ∷ outer))
 next_work parts level outer n d =
     left_next parts level outer (Work n) d ∙
     ap (λ xs. xs ++ left parts (stepped (level ∷ outer))) (map_replicate (called_from (callers parts (is_base level) outer)) n (point_at level.function (line_of d.statement) Local))
@@ -79,7 +80,10 @@ length_added : (parts : Parts) (level : Level) (outer : List Level) (line : ℕ)
 length_added parts level outer line a = length-map (added parts level line a) (called_from (callers parts (is_base level) outer))
 
 -- the body after it passed the whole of its statement
-pub stands_after : (parts : Parts) (body : Body) (place : Place) (a : Action) (k labels : ℕ) (d : Does (body_at parts body.place.top (reverse body.place.outer.items)) body.place.top.at a) → StandsIn parts body → IsIn parts place → left parts (levels place) ≡ left parts (stepped (levels body.place)) → IsSettled parts place.top (reverse place.outer.items) → length (added parts body.place.top (line_of d.statement) a) ≡ body.passed + k → body.count + k ≤ length (trace parts body.start) → labels ≡ set_after_all body.labels (take k (drop body.passed (left parts (levels body.place)))) → StandsIn parts (record { start = body.start; set = body.set; labels = labels; count = body.count + k; passed = 0; place = place })
+pub stands_after : (parts : Parts) (body : Body) (place : Place) (a : Action) (k labels : ℕ) (d : Does (body_at parts body.place.top (reverse body.place.outer.items)) body.place.top.at a) → StandsIn parts body → IsIn parts place →
+    left parts (levels place) ≡ left parts (stepped (levels body.place)) → IsSettled parts place.top (reverse place.outer.items) → length (added parts body.place.top (line_of d.statement) a) ≡ body.passed + k →
+    body.count + k ≤ length (trace parts body.start) → labels ≡ set_after_all body.labels (take k (drop body.passed (left parts (levels body.place)))) →
+    StandsIn parts (record { start = body.start; set = body.set; labels = labels; count = body.count + k; passed = 0; place = place })
 stands_after parts body place a k labels d stands whole rest settled size within after =
     let level : Level = body.place.top in
     let outer : List Level = reverse body.place.outer.items in
@@ -95,7 +99,8 @@ stands_after parts body place a k labels d stands whole rest settled size within
       left = rest ∙ sym behind;
       within = within;
       short = stands.short;
-      labels = after ∙ (ap (λ points. set_after_all body.labels (take k points)) stands.left ∙ (ap (λ l. set_after_all l (take k (drop body.count (trace parts body.start)))) stands.labels ∙ sym (labels_more (trace parts body.start) body.set body.count k)));
+      labels = after ∙ (ap (λ points. set_after_all body.labels (take k points)) stands.left ∙
+          (ap (λ l. set_after_all l (take k (drop body.count (trace parts body.start)))) stands.labels ∙ sym (labels_more (trace parts body.start) body.set body.count k)));
     }
 
 -- so many points can be passed as are ahead
@@ -104,7 +109,9 @@ within_ahead points count k here few =
     let h : local_ahead points count ≤ length (drop count points) = local_ahead_le points count in
     omega (arith, length-drop count points)
 
-pub stands_work : (parts : Parts) (body : Body) (place : Place) (n k : ℕ) → Does (body_at parts body.place.top (reverse body.place.outer.items)) body.place.top.at (Work n) → StandsIn parts body → IsIn parts place → left parts (levels place) ≡ left parts (stepped (levels body.place)) → IsSettled parts place.top (reverse place.outer.items) → n ≡ body.passed + k → body.count + k ≤ length (trace parts body.start) → StandsIn parts (record { start = body.start; set = body.set; labels = body.labels; count = body.count + k; passed = 0; place = place })
+pub stands_work : (parts : Parts) (body : Body) (place : Place) (n k : ℕ) → Does (body_at parts body.place.top (reverse body.place.outer.items)) body.place.top.at (Work n) → StandsIn parts body → IsIn parts place →
+    left parts (levels place) ≡ left parts (stepped (levels body.place)) → IsSettled parts place.top (reverse place.outer.items) → n ≡ body.passed + k → body.count + k ≤ length (trace parts body.start) →
+    StandsIn parts (record { start = body.start; set = body.set; labels = body.labels; count = body.count + k; passed = 0; place = place })
 stands_work parts body place n k d stands whole rest settled size within =
     let level : Level = body.place.top in
     let outer : List Level = reverse body.place.outer.items in
@@ -115,7 +122,8 @@ stands_work parts body place n k d stands whole rest settled size within =
 part_work : (n passed : ℕ) (a : Action) → Work n ≡ a → passed < n → IsPartOf passed a
 part_work n passed a e few = subst (IsPartOf passed) e few
 
-pub stands_part : (parts : Parts) (body : Body) (n k : ℕ) → Does (body_at parts body.place.top (reverse body.place.outer.items)) body.place.top.at (Work n) → StandsIn parts body → body.passed + k < n → body.count + k ≤ length (trace parts body.start) → StandsIn parts (record { start = body.start; set = body.set; labels = body.labels; count = body.count + k; passed = body.passed + k; place = body.place })
+pub stands_part : (parts : Parts) (body : Body) (n k : ℕ) → Does (body_at parts body.place.top (reverse body.place.outer.items)) body.place.top.at (Work n) → StandsIn parts body → body.passed + k < n →
+    body.count + k ≤ length (trace parts body.start) → StandsIn parts (record { start = body.start; set = body.set; labels = body.labels; count = body.count + k; passed = body.passed + k; place = body.place })
 stands_part parts body n k d stands few within =
     let level : Level = body.place.top in
     let outer : List Level = reverse body.place.outer.items in
@@ -129,10 +137,13 @@ stands_part parts body n k d stands few within =
       left = sym (drop-drop k body.passed (left parts (levels body.place))) ∙ (ap (drop k) stands.left ∙ drop-drop k body.count (trace parts body.start));
       within = within;
       short = stands.short;
-      labels = same ∙ (ap (λ points. set_after_all body.labels (take k points)) stands.left ∙ (ap (λ l. set_after_all l (take k (drop body.count (trace parts body.start)))) stands.labels ∙ sym (labels_more (trace parts body.start) body.set body.count k)));
+      labels = same ∙ (ap (λ points. set_after_all body.labels (take k points)) stands.left ∙
+          (ap (λ l. set_after_all l (take k (drop body.count (trace parts body.start)))) stands.labels ∙ sym (labels_more (trace parts body.start) body.set body.count k)));
     }
 
-pub stands_labels : (parts : Parts) (body : Body) (place : Place) (s : ℕ) → Does (body_at parts body.place.top (reverse body.place.outer.items)) body.place.top.at (Labels s) → StandsIn parts body → IsIn parts place → left parts (levels place) ≡ left parts (stepped (levels body.place)) → IsSettled parts place.top (reverse place.outer.items) → body.count + 1 ≤ length (trace parts body.start) → StandsIn parts (record { start = body.start; set = body.set; labels = s; count = body.count + 1; passed = body.passed; place = place })
+pub stands_labels : (parts : Parts) (body : Body) (place : Place) (s : ℕ) → Does (body_at parts body.place.top (reverse body.place.outer.items)) body.place.top.at (Labels s) → StandsIn parts body → IsIn parts place →
+    left parts (levels place) ≡ left parts (stepped (levels body.place)) → IsSettled parts place.top (reverse place.outer.items) → body.count + 1 ≤ length (trace parts body.start) →
+    StandsIn parts (record { start = body.start; set = body.set; labels = s; count = body.count + 1; passed = body.passed; place = place })
 stands_labels parts body place s d stands whole rest settled within =
     let level : Level = body.place.top in
     let outer : List Level = reverse body.place.outer.items in
@@ -163,29 +174,37 @@ part_shared passed (operation.Unlock n) h = h
 part_shared passed (operation.Spawn n) h = h
 
 -- at a shared statement that point comes next
-pub next_shared : (parts : Parts) (body : Body) (o : Operation) (d : Does (body_at parts body.place.top (reverse body.place.outer.items)) body.place.top.at (action_of_operation o)) → StandsIn parts body → drop body.count (trace parts body.start) ≡ (shared_point parts body.place.top (reverse body.place.outer.items) (line_of d.statement) o).point ∷ left parts (stepped (levels body.place))
+pub next_shared : (parts : Parts) (body : Body) (o : Operation) (d : Does (body_at parts body.place.top (reverse body.place.outer.items)) body.place.top.at (action_of_operation o)) → StandsIn parts body →
+    drop body.count (trace parts body.start) ≡ (shared_point parts body.place.top (reverse body.place.outer.items) (line_of d.statement) o).point ∷ left parts (stepped (levels body.place))
 next_shared parts body o d stands =
     let level : Level = body.place.top in
     let outer : List Level = reverse body.place.outer.items in
     let none : body.passed ≡ 0 = part_shared body.passed o (stands.part (action_of_operation o) d) in
-    sym stands.left ∙ (ap (λ passed. drop passed (left parts (levels body.place))) none ∙ (left_next parts level outer (action_of_operation o) d ∙ ap (λ xs. xs ++ left parts (stepped (level ∷ outer))) (shared_point parts level outer (line_of d.statement) o).alone))
+    sym stands.left ∙ (ap (λ passed. drop passed (left parts (levels body.place))) none ∙
+    (left_next parts level outer (action_of_operation o) d ∙ ap (λ xs. xs ++ left parts (stepped (level ∷ outer))) (shared_point parts level outer (line_of d.statement) o).alone))
 
-pub stands_shared : (parts : Parts) (body : Body) (place : Place) (o : Operation) → Does (body_at parts body.place.top (reverse body.place.outer.items)) body.place.top.at (action_of_operation o) → StandsIn parts body → IsIn parts place → left parts (levels place) ≡ left parts (stepped (levels body.place)) → IsSettled parts place.top (reverse place.outer.items) → body.count + 1 ≤ length (trace parts body.start) → StandsIn parts (record { start = body.start; set = body.set; labels = body.labels; count = body.count + 1; passed = body.passed; place = place })
+pub stands_shared : (parts : Parts) (body : Body) (place : Place) (o : Operation) → Does (body_at parts body.place.top (reverse body.place.outer.items)) body.place.top.at (action_of_operation o) → StandsIn parts body → IsIn parts place →
+    left parts (levels place) ≡ left parts (stepped (levels body.place)) → IsSettled parts place.top (reverse place.outer.items) → body.count + 1 ≤ length (trace parts body.start) →
+    StandsIn parts (record { start = body.start; set = body.set; labels = body.labels; count = body.count + 1; passed = body.passed; place = place })
 stands_shared parts body place o d stands whole rest settled within =
     let level : Level = body.place.top in
     let outer : List Level = reverse body.place.outer.items in
     let point : IsSharedPoint (map (called_from (callers parts (is_base level) outer)) (added parts level (line_of d.statement) (action_of_operation o))) = shared_point parts level outer (line_of d.statement) o in
     let none : body.passed ≡ 0 = part_shared body.passed o (stands.part (action_of_operation o) d) in
-    let after : body.labels ≡ set_after_all body.labels (take 1 (drop body.passed (left parts (levels body.place)))) = sym (ap (λ points. set_after_all body.labels (take 1 points)) (stands.left ∙ next_shared parts body o d stands) ∙ point.plain body.labels) in
+    let after : body.labels ≡ set_after_all body.labels (take 1 (drop body.passed (left parts (levels body.place)))) =
+    sym (ap (λ points. set_after_all body.labels (take 1 points)) (stands.left ∙ next_shared parts body o d stands) ∙ point.plain body.labels) in
     let size : length (added parts level (line_of d.statement) (action_of_operation o)) ≡ body.passed + 1 =
     sym (length_added parts level outer (line_of d.statement) (action_of_operation o)) ∙ (ap length point.alone ∙ omega arith) in
-    let whole_one : StandsIn parts (record { start = body.start; set = body.set; labels = body.labels; count = body.count + 1; passed = 0; place = place }) = stands_after parts body place (action_of_operation o) 1 body.labels d stands whole rest settled size within after in
+    let whole_one : StandsIn parts (record { start = body.start; set = body.set; labels = body.labels; count = body.count + 1; passed = 0; place = place }) = stands_after parts body place (action_of_operation o) 1 body.labels d stands whole rest
+    settled size within after in
     subst (λ passed. StandsIn parts (record { start = body.start; set = body.set; labels = body.labels; count = body.count + 1; passed = passed; place = place })) (sym none) whole_one
 
 -- a shared point is not local
-pub no_local_shared : (parts : Parts) (body : Body) (o : Operation) → Does (body_at parts body.place.top (reverse body.place.outer.items)) body.place.top.at (action_of_operation o) → StandsIn parts body → local_ahead (trace parts body.start) body.count ≡ 0
+pub no_local_shared : (parts : Parts) (body : Body) (o : Operation) → Does (body_at parts body.place.top (reverse body.place.outer.items)) body.place.top.at (action_of_operation o) → StandsIn parts body →
+    local_ahead (trace parts body.start) body.count ≡ 0
 no_local_shared parts body o d stands =
-    no_local (trace parts body.start) (left parts (stepped (levels body.place))) body.count (shared_point parts body.place.top (reverse body.place.outer.items) (line_of d.statement) o).point (next_shared parts body o d stands) (shared_point parts body.place.top (reverse body.place.outer.items) (line_of d.statement) o).shared
+    no_local (trace parts body.start) (left parts (stepped (levels body.place))) body.count (shared_point parts body.place.top (reverse body.place.outer.items) (line_of d.statement) o).point (next_shared parts body o d stands)
+    (shared_point parts body.place.top (reverse body.place.outer.items) (line_of d.statement) o).shared
 
 drop_nil : (n : ℕ) → drop {A = Point} n [] ≡ []
 drop_nil zero = refl
@@ -272,12 +291,15 @@ pub record IsFirst (parts : Parts) (level : Level) (outer : List Level) (line : 
   pub first : points ≡ point ∷ others
   pub stack : point.stack ≡ record { function = level.function; line = line } ∷ callers parts (is_base level) outer
 
-first_point : (parts : Parts) (level : Level) (outer : List Level) (line passed : ℕ) (rest : List Point) (a : Action) → IsPoint a → IsPartOf passed a → IsFirst parts level outer line (drop passed (map (called_from (callers parts (is_base level) outer)) (added parts level line a) ++ rest))
+first_point : (parts : Parts) (level : Level) (outer : List Level) (line passed : ℕ) (rest : List Point) (a : Action) → IsPoint a → IsPartOf passed a →
+    IsFirst parts level outer line (drop passed (map (called_from (callers parts (is_base level) outer)) (added parts level line a) ++ rest))
 first_point parts level outer line passed rest (Work n) p few =
     record {
       point = called_from (callers parts (is_base level) outer) (point_at level.function line Local);
       others = replicate (n - passed - 1) (called_from (callers parts (is_base level) outer) (point_at level.function line Local)) ++ rest;
-      first = ap (λ xs. drop passed (xs ++ rest)) (map_replicate (called_from (callers parts (is_base level) outer)) n (point_at level.function line Local)) ∙ (work_left n passed (called_from (callers parts (is_base level) outer) (point_at level.function line Local)) rest (omega arith) ∙ split_first (n - passed) (called_from (callers parts (is_base level) outer) (point_at level.function line Local)) rest (omega arith));
+      first = ap (λ xs. drop passed (xs ++ rest)) (map_replicate (called_from (callers parts (is_base level) outer)) n (point_at level.function line Local)) ∙
+          (work_left n passed (called_from (callers parts (is_base level) outer) (point_at level.function line Local)) rest (omega arith) ∙
+          split_first (n - passed) (called_from (callers parts (is_base level) outer) (point_at level.function line Local)) rest (omega arith));
       stack = refl;
     }
 first_point parts level outer line passed rest (Call f) p few = absurd p
@@ -289,7 +311,8 @@ first_point parts level outer line passed rest (Unlock m) p few = rw few (record
 first_point parts level outer line passed rest (Spawn f) p few = rw few (record { point = _; others = rest; first = refl; stack = refl })
 first_point parts level outer line passed rest (Labels s) p few = rw few (record { point = _; others = rest; first = refl; stack = refl })
 
-stack_at : (parts : Parts) (body : Body) → StandsIn parts body → is_ended (trace parts body.start) body.count ≡ false → IsSettled parts body.place.top (reverse body.place.outer.items) → frames_of parts body.place ≡ (next_point (trace parts body.start) body.count).stack
+stack_at : (parts : Parts) (body : Body) → StandsIn parts body → is_ended (trace parts body.start) body.count ≡ false → IsSettled parts body.place.top (reverse body.place.outer.items) →
+    frames_of parts body.place ≡ (next_point (trace parts body.start) body.count).stack
 stack_at parts body stands going (AtPoint a d p) =
     let level : Level = body.place.top in
     let outer : List Level = reverse body.place.outer.items in

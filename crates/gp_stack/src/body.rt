@@ -4,10 +4,10 @@ ghost use Rattle.gp_isa.specs.Calls.{IsProgram};
 ghost use Rattle.gp_isa.specs.Limits.{most_functions};
 ghost use Rattle.gp_isa.specs.Size.{depth_of};
 ghost use Rattle.gp_isa.specs.Trace.{trace, is_local};
-ghost use Rattle.gp_stack.specs.Goroutine.{next_point, is_ended, labels_of, local_ahead, stack_of};
+ghost use Rattle.gp_stack.specs.Goroutine.{local_ahead};
 ghost use Rattle.gp_stack.specs.Peek.{then_at};
 ghost use Rattle.gp_stack.specs.Word.{word_of};
-ghost use Rattle.gp_stack.specs.Body.{Progress, progress_of, HasRoom, StandsIn, IsAtShared};
+ghost use Rattle.gp_stack.specs.Body.{Progress, progress_of, is_over_at, stack_at, labels_at, ahead_at, HasRoom, StandsIn, IsAtShared};
 ghost use Rattle.gp_stack.specs.Record.{record_of};
 
 use crate::climb::{Climb, leaf, word};
@@ -93,7 +93,7 @@ impl Body {
 
     /// The number of the label set.
     pub fn labels(&self) -> u8
-        ensures { (parts : Parts) → StandsIn parts self.now → let p = progress_of self.now in result ≡ labels_of (trace parts p.start) p.set p.count }
+        ensures { (parts : Parts) → StandsIn parts self.now → result ≡ labels_at parts (progress_of self.now) }
     {
         self.labels
     }
@@ -101,7 +101,7 @@ impl Body {
     /// Passes `n` local points. It takes time by the statements and turns that it crosses, however large `n` is.
     pub fn advance(&mut self, program: &Program, n: u64)
         requires stands { StandsIn program.now self.old }
-        requires ahead { let p = progress_of self.old in n ≤ local_ahead (trace program.now p.start) p.count }
+        requires ahead { n ≤ ahead_at program.now (progress_of self.old) }
         ensures stands { StandsIn program.now self.new }
         ensures progress { progress_of self.new ≡ record (progress_of self.old) { count = (progress_of self.old).count + n } }
     {
@@ -134,7 +134,7 @@ impl Body {
     /// How many local points are ahead, at most `limit`, and what comes behind them. It looks no further.
     pub fn peek(&self, program: &Program, limit: u64) -> Peek
         requires { StandsIn program.now self.now }
-        ensures local { let p = progress_of self.now in result.local ≡ min limit (local_ahead (trace program.now p.start) p.count) }
+        ensures local { result.local ≡ min limit (ahead_at program.now (progress_of self.now)) }
         ensures then { let p = progress_of self.now in result.then ≡ then_at (trace program.now p.start) (p.count + result.local) }
     {
         match self.place.ahead(program) {
@@ -159,7 +159,7 @@ impl Body {
     /// Whether the trace is ended.
     pub fn is_over(&self, program: &Program) -> bool
         requires { StandsIn program.now self.now }
-        ensures { let p = progress_of self.now in result ≡ is_ended (trace program.now p.start) p.count }
+        ensures { result ≡ is_over_at program.now (progress_of self.now) }
     {
         match self.peek(program, 0).then {
             Then::Over => true,
@@ -188,8 +188,8 @@ impl Body {
     /// The stack of the next point, the leaf first, cut to its first `max` frames.
     pub fn stack(&self, alloc: Global, program: &Program, max: u32) -> Result<Stack, Memory>
         requires stands { StandsIn program.now self.now }
-        requires going { let p = progress_of self.now in is_ended (trace program.now p.start) p.count ≡ false }
-        ensures { let p = progress_of self.now in IfOk result (λ stack. stack ≡ take max (stack_of (trace program.now p.start) p.count)) }
+        requires going { is_over_at program.now (progress_of self.now) ≡ false }
+        ensures { IfOk result (λ stack. stack ≡ take max (stack_at program.now (progress_of self.now))) }
     {
         if max == 0 {
             return Ok(Stack::new(alloc));
@@ -210,9 +210,9 @@ impl Body {
     /// many. A frame's word is its function times 2^32 plus its line.
     pub fn stack_words(&self, program: &Program, to: &mut [u64]) -> usize
         requires stands { StandsIn program.now self.now }
-        requires going { let p = progress_of self.now in is_ended (trace program.now p.start) p.count ≡ false }
-        ensures count { let p = progress_of self.now in result ≡ min (length to.old) (length (stack_of (trace program.now p.start) p.count)) }
-        ensures words { let p = progress_of self.now in take result to.new ≡ map word_of (take result (stack_of (trace program.now p.start) p.count)) }
+        requires going { is_over_at program.now (progress_of self.now) ≡ false }
+        ensures count { result ≡ min (length to.old) (length (stack_at program.now (progress_of self.now))) }
+        ensures words { take result to.new ≡ map word_of (take result (stack_at program.now (progress_of self.now))) }
         ensures rest { drop result to.new ≡ drop result to.old }
     {
         if to.is_empty() {

@@ -26,7 +26,8 @@ pub(crate) fn word(frame: Frame) -> u64
 
 impl Climb {
     pub(crate) fn new(place: &Place) -> Climb
-        ensures frames { (parts : Parts) → frames_left parts place.now result ≡ callers parts (is_base place.now.top) (reverse place.now.outer.items) }
+        ensures frames { (parts : Parts) → frames_left parts place.now result
+            ≡ callers parts (is_base place.now.top) (reverse place.now.outer.items) }
         ensures within { result.level ≤ vec_len place.now.outer }
     {
         Climb {
@@ -38,7 +39,8 @@ impl Climb {
     /// The frame of the next caller.
     pub(crate) fn next(&mut self, place: &Place, program: &Program) -> Option<Frame>
         requires { self.old.level ≤ vec_len place.now.outer }
-        ensures frames { MatchOption result (frames_left program.now place.now self.old ≡ []) (λ frame. frames_left program.now place.now self.old ≡ frame ∷ frames_left program.now place.now self.new) }
+        ensures frames { let before = frames_left program.now place.now self.old in
+            MatchOption result (before ≡ []) (λ frame. before ≡ frame ∷ frames_left program.now place.now self.new) }
         ensures within { self.new.level ≤ vec_len place.now.outer }
     {
         while self.level > 0 {

@@ -75,7 +75,8 @@ fn look_at(
     limit: u64,
 ) -> Peek
     requires { loops ≤ most_loops }
-    ensures { (f line : ℕ) (a : Action) → Does statements.now at a → result ≡ peek_of (steps (points_of_action program.now calls loops f line a)) limit }
+    ensures { (f line : ℕ) (a : Action) → Does statements.now at a →
+        result ≡ peek_of (steps (points_of_action program.now calls loops f line a)) limit }
 {
     let nothing = Peek {
         local: 0,

@@ -251,7 +251,8 @@ impl Place {
         requires place { IsIn program.now self.now }
         requires next { self.now.top.at + 1 < 2 ^ 64 }
         requires few { first.local ≤ limit }
-        ensures { (xs : List (Option Operation)) → first ≡ peek_of xs limit → result ≡ peek_of (xs ++ steps (left program.now (stepped (levels self.now)))) limit }
+        ensures { (xs : List (Option Operation)) → first ≡ peek_of xs limit →
+            result ≡ peek_of (xs ++ steps (left program.now (stepped (levels self.now)))) limit }
     {
         if !first.is_over() {
             return first;

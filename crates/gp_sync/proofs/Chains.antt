@@ -27,7 +27,8 @@ last_in next since h (suc n) =
 
 module _ (next since next' since' : List ℕ) where
   -- a line whose goroutines keep their links is the same line
-  pub same_line : (h n : ℕ) → ((k : ℕ) → 1 ≤ in_line k (line_from next since h n) → get_or next' k 0 ≡ get_or next k 0) → ((k : ℕ) → 1 ≤ in_line k (line_from next since h n) → get_or since' k 0 ≡ get_or since k 0) → line_from next' since' h n ≡ line_from next since h n
+  pub same_line : (h n : ℕ) → ((k : ℕ) → 1 ≤ in_line k (line_from next since h n) → get_or next' k 0 ≡ get_or next k 0) → ((k : ℕ) → 1 ≤ in_line k (line_from next since h n) → get_or since' k 0 ≡ get_or since k 0) →
+      line_from next' since' h n ≡ line_from next since h n
   same_line h zero links clocks = refl
   same_line h (suc n) links clocks =
       let link = links h (head_in next since h n) in
@@ -50,12 +51,15 @@ module _ (next since next' since' : List ℕ) where
       omega (arith, in_line-cons h (waiter since h) (line_from next since (get_or next h 0) (suc n)), one_at h h refl, last')
 
   -- a line at whose last goroutine another was linked is one longer
-  pub longer_line : (h n g clock : ℕ) → ((k : ℕ) → 1 ≤ in_line k (line_from next since h (suc n)) → k ≢ behind next h n → get_or next' k 0 ≡ get_or next k 0) → ((k : ℕ) → 1 ≤ in_line k (line_from next since h (suc n)) → get_or since' k 0 ≡ get_or since k 0) → ((k : ℕ) → in_line k (line_from next since h (suc n)) ≤ 1) → get_or next' (behind next h n) 0 ≡ g → get_or since' g 0 ≡ clock → (line_from next' since' h (suc (suc n)) ≡ line_from next since h (suc n) ++ record { g = g; since = clock } ∷ []) × (behind next' h (suc n) ≡ g)
+  pub longer_line : (h n g clock : ℕ) → ((k : ℕ) → 1 ≤ in_line k (line_from next since h (suc n)) → k ≢ behind next h n → get_or next' k 0 ≡ get_or next k 0) →
+      ((k : ℕ) → 1 ≤ in_line k (line_from next since h (suc n)) → get_or since' k 0 ≡ get_or since k 0) → ((k : ℕ) → in_line k (line_from next since h (suc n)) ≤ 1) → get_or next' (behind next h n) 0 ≡ g → get_or since' g 0 ≡ clock →
+      (line_from next' since' h (suc (suc n)) ≡ line_from next since h (suc n) ++ record { g = g; since = clock } ∷ []) × (behind next' h (suc n) ≡ g)
   longer_line h zero g clock links clocks once to at =
       let here = clocks h (head_in next since h 0) in
       (rw (here, to, at) refl, to)
   longer_line h (suc n) g clock links clocks once to at =
       let link = links h (head_in next since h (suc n)) (head_not_last h n (once h)) in
       let here = clocks h (head_in next since h (suc n)) in
-      let rest = longer_line (get_or next h 0) n g clock (λ k is_in. links k (rest_in next since h (suc n) k is_in)) (λ k is_in. clocks k (rest_in next since h (suc n) k is_in)) (λ k. omega (arith, once k, in_line-cons k (waiter since h) (line_from next since (get_or next h 0) (suc n)))) to at in
+      let rest = longer_line (get_or next h 0) n g clock (λ k is_in. links k (rest_in next since h (suc n) k is_in)) (λ k is_in. clocks k (rest_in next since h (suc n) k is_in))
+      (λ k. omega (arith, once k, in_line-cons k (waiter since h) (line_from next since (get_or next h 0) (suc n)))) to at in
       (rw (link, here, rest.0) refl, rw link rest.1)

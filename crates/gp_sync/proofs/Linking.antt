@@ -27,7 +27,9 @@ length_linked next h t zero g = refl
 length_linked next h t (suc m) g = rw not_zero (length-set next t g)
 
 -- the line at whose tail a goroutine now stands, and that goroutine is its tail
-one_longer : (next since : List ℕ) (h t n g clock : ℕ) → (0 < n → t ≡ behind next h (n - 1)) → (0 < n → t < length next) → ((k : ℕ) → in_line k (line_from next since h n) ≤ 1) → in_line g (line_from next since h n) ≡ 0 → g < length since → (line_of (linked next (line_with h t n) g) (set since g clock) (lengthened (line_with h t n) g) ≡ line_from next since h n ++ record { g = g; since = clock } ∷ []) × (behind (linked next (line_with h t n) g) (lengthened (line_with h t n) g).head n ≡ g)
+one_longer : (next since : List ℕ) (h t n g clock : ℕ) → (0 < n → t ≡ behind next h (n - 1)) → (0 < n → t < length next) → ((k : ℕ) → in_line k (line_from next since h n) ≤ 1) → in_line g (line_from next since h n) ≡ 0 → g < length since →
+    (line_of (linked next (line_with h t n) g) (set since g clock) (lengthened (line_with h t n) g) ≡ line_from next since h n ++ record { g = g; since = clock } ∷ []) ×
+    (behind (linked next (line_with h t n) g) (lengthened (line_with h t n) g).head n ≡ g)
 one_longer next since h t zero g clock tail bound once free born =
     let at = get_or-set_same since g clock 0 born in
     (rw at refl, refl)
@@ -37,7 +39,8 @@ one_longer next since h t (suc m) g clock tail bound once free born =
     let some : t < length next = bound (omega arith) in
     let row : List Waiter = line_from next since h (suc m) in
     let links : (k : ℕ) → 1 ≤ in_line k (line_from next since h (suc m)) → k ≢ behind next h m → get_or (set next t g) k 0 ≡ get_or next k 0 = λ k is_in other. get_or-set_other next t k g 0 (λ same. other (same ∙ last)) in
-    let clocks : (k : ℕ) → 1 ≤ in_line k (line_from next since h (suc m)) → get_or (set since g clock) k 0 ≡ get_or since k 0 = λ k is_in. get_or-set_other since g k clock 0 (λ same. let free' : in_line k (line_from next since h (suc m)) ≡ 0 = rw same free in omega arith) in
+    let clocks : (k : ℕ) → 1 ≤ in_line k (line_from next since h (suc m)) → get_or (set since g clock) k 0 ≡ get_or since k 0 = λ k is_in.
+    get_or-set_other since g k clock 0 (λ same. let free' : in_line k (line_from next since h (suc m)) ≡ 0 = rw same free in omega arith) in
     let to : get_or (set next t g) (behind next h m) 0 ≡ g = rw (← last) (get_or-set_same next t g 0 some) in
     let done = longer_line next since (set next t g) (set since g clock) h m g clock links clocks once to (get_or-set_same since g clock 0 born) in
     let links_are : linked next (line_with h t (suc m)) g ≡ set next t g = rw not_zero refl in

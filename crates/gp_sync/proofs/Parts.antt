@@ -24,7 +24,8 @@ length-channels (b ∷ bs) [] rs some some' = absurd (omega arith)
 length-channels (b ∷ bs) (s ∷ ss) [] some some' = absurd (omega arith)
 length-channels (b ∷ bs) (s ∷ ss) (r ∷ rs) some some' = ap suc (length-channels bs ss rs (omega arith) (omega arith))
 
-pub channel_at : (bs : List ℕ) (ss rs : List (List Waiter)) (c : ℕ) → c < length bs → length bs ≤ length ss → length bs ≤ length rs → get_or (channels_of bs ss rs) c empty_channel ≡ record { buffered = get_or bs c 0; senders = get_or ss c []; receivers = get_or rs c [] }
+pub channel_at : (bs : List ℕ) (ss rs : List (List Waiter)) (c : ℕ) → c < length bs → length bs ≤ length ss → length bs ≤ length rs →
+    get_or (channels_of bs ss rs) c empty_channel ≡ record { buffered = get_or bs c 0; senders = get_or ss c []; receivers = get_or rs c [] }
 channel_at [] ss rs c lt some some' = absurd (omega arith)
 channel_at (b ∷ bs) [] rs c lt some some' = absurd (omega arith)
 channel_at (b ∷ bs) (s ∷ ss) [] c lt some some' = absurd (omega arith)
@@ -166,7 +167,8 @@ module _ (caps bs : List ℕ) (hs : List Bool) (table : LineTable) (whole : IsLa
       let far = drop-set-lt n (drop n table.lines) c x lt in
       let near = set_receivers bs table.lines (drop n table.lines) c x in
       let past : length (channels_of bs table.lines (set (drop n table.lines) c x)) ≤ n + c = omega (arith, length-channels_of bs table.lines (set (drop n table.lines) c x)) in
-      let same = set_senders bs table.lines (set (drop n table.lines) c x) (n + c) x ∙ set_past (channels_of bs table.lines (set (drop n table.lines) c x)) (n + c) (record (get_or (channels_of bs table.lines (set (drop n table.lines) c x)) (n + c) empty_channel) { senders = x }) past in
+      let same = set_senders bs table.lines (set (drop n table.lines) c x) (n + c) x ∙
+      set_past (channels_of bs table.lines (set (drop n table.lines) c x)) (n + c) (record (get_or (channels_of bs table.lines (set (drop n table.lines) c x)) (n + c) empty_channel) { senders = x }) past in
       rw (here, far, same, near) refl
 
   pub with_waiters : (m : ℕ) (x : List Waiter) → with_lines (set table.lines (n + (n + m)) x) ≡ record state { mutexes = set state.mutexes m (record (get_or state.mutexes m free_mutex) { waiters = x }) }
@@ -178,7 +180,8 @@ module _ (caps bs : List ℕ) (hs : List Bool) (table : LineTable) (whole : IsLa
       let past : length (channels_of bs table.lines rows) ≤ n + (n + m) = omega (arith, length-channels_of bs table.lines rows) in
       let same = set_senders bs table.lines rows (n + (n + m)) x ∙ set_past (channels_of bs table.lines rows) (n + (n + m)) (record (get_or (channels_of bs table.lines rows) (n + (n + m)) empty_channel) { senders = x }) past in
       let past' : length (channels_of bs table.lines (drop n table.lines)) ≤ n + m = omega (arith, length-channels_of bs table.lines (drop n table.lines)) in
-      let same' = set_receivers bs table.lines (drop n table.lines) (n + m) x ∙ set_past (channels_of bs table.lines (drop n table.lines)) (n + m) (record (get_or (channels_of bs table.lines (drop n table.lines)) (n + m) empty_channel) { receivers = x }) past' in
+      let same' = set_receivers bs table.lines (drop n table.lines) (n + m) x ∙
+      set_past (channels_of bs table.lines (drop n table.lines)) (n + m) (record (get_or (channels_of bs table.lines (drop n table.lines)) (n + m) empty_channel) { receivers = x }) past' in
       rw (here, same, same', there, near) refl
 
   pub with_buffered : (c k : ℕ) → state_of caps (set bs c k) hs table ≡ record state { channels = set state.channels c (record (get_or state.channels c empty_channel) { buffered = k }) }
@@ -217,7 +220,8 @@ mutexes_none zero = refl
 mutexes_none (suc n) = ap (λ (rest : List Mutex). free_mutex ∷ rest) (mutexes_none n)
 
 -- a table of empty lines stands for empty channels and free mutexes
-pub empty_state : (caps : List ℕ) (cells k m : ℕ) → state_of caps (replicate k 0) (replicate m false) (record { cells = cells; lines = replicate (k + k + m) [] }) ≡ record { cells = cells; capacities = caps; channels = replicate k empty_channel; mutexes = replicate m free_mutex }
+pub empty_state : (caps : List ℕ) (cells k m : ℕ) → state_of caps (replicate k 0) (replicate m false) (record { cells = cells; lines = replicate (k + k + m) [] }) ≡ record
+    { cells = cells; capacities = caps; channels = replicate k empty_channel; mutexes = replicate m free_mutex }
 empty_state caps cells k m =
     let all : List (List Waiter) = replicate (k + k + m) [] in
     let len = length-replicate {A = ℕ} k 0 in

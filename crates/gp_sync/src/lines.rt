@@ -1,4 +1,5 @@
 ghost use Rattle.std.specs.Prelude.{◌≡◌, ℕ, List, ◌<◌, ◌+◌, ◌^◌, [], ◌∷◌, ◌++◌, length, replicate, sum_by, slice_get, slice_index_or, IfOk, IfNone, IfSome};
+ghost use Rattle.gp_sync.specs.Operations.{waiter};
 ghost use Rattle.gp_sync.specs.Places.{in_line};
 ghost use Rattle.gp_sync.specs.kept.Links.{AreLinked, line_of, lines_of, linked, lengthened, shortened, with_last, without_head, BeginsWith};
 
@@ -84,7 +85,7 @@ fn push_tail(next: &mut [u32], since: &mut [u64], lines: &mut [Line], at: usize,
     requires within { g < length next.old }
     requires waits_nowhere { sum_by (in_line g) (lines_of next.old since.old lines.old) ≡ 0 }
     ensures linked { AreLinked next.new since.new lines.new }
-    ensures lines { lines_of next.new since.new lines.new ≡ with_last (lines_of next.old since.old lines.old) at (record { g = g; since = clock }) }
+    ensures lines { lines_of next.new since.new lines.new ≡ with_last (lines_of next.old since.old lines.old) at (waiter g clock) }
 {
     let line = lines[at];
     since[g as usize] = clock;
@@ -139,7 +140,7 @@ impl Lines {
         requires there { at < length self.old.lines }
         requires within { g < self.old.cells }
         requires waits_nowhere { sum_by (in_line g) self.old.lines ≡ 0 }
-        ensures { self.new ≡ record self.old { lines = with_last self.old.lines at (record { g = g; since = since }) } }
+        ensures { self.new ≡ record self.old { lines = with_last self.old.lines at (waiter g since) } }
     {
         push_tail(
             &mut self.next,

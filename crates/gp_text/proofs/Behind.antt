@@ -71,7 +71,8 @@ inside_more before s = fold-append inside_after false before (s ∷ [])
 pub last_is : (said : List Said) (at : ℕ) → at < length said → (at + 1 == length said) ≡ (length (drop (at + 1) said) == 0)
 last_is said at within = rw (length-drop (at + 1) said) (grind (arith, nat_tests))
 
-first_found : (before : List Said) (s : Said) (after : List Said) (cause : Cause) → fault (is_inside before) (known_of before) (length after == 0) s ≡ Some cause → first_fault before (s ∷ after) ≡ Some (record { line = length before + 1; cause = cause })
+first_found : (before : List Said) (s : Said) (after : List Said) (cause : Cause) → fault (is_inside before) (known_of before) (length after == 0) s ≡ Some cause →
+    first_fault before (s ∷ after) ≡ Some (record { line = length before + 1; cause = cause })
 unfolding first_fault
 first_found before s after cause h = rw (h, first_fault) refl
 

@@ -69,7 +69,8 @@ no_line [] none = refl
 no_line (b ∷ bytes) none = absurd (omega arith)
 
 -- one more line is read
-pub read_line : (built now : List Said) (rest line after bytes : List ℕ) (at : ℕ) → built ++ map said_of (lines_of rest) ≡ map said_of (lines_of bytes) → position is_lf rest ≡ Some at → at < length rest → line ≡ take at rest → after ≡ drop (at + 1) rest
+pub read_line : (built now : List Said) (rest line after bytes : List ℕ) (at : ℕ) → built ++ map said_of (lines_of rest) ≡ map said_of (lines_of bytes) → position is_lf rest ≡ Some at → at < length rest → line ≡ take at rest →
+    after ≡ drop (at + 1) rest
     → now ≡ built ++ said_of line ∷ [] → now ++ map said_of (lines_of after) ≡ map said_of (lines_of bytes)
 read_line built now rest line after bytes at inv is within line_is after_is pushed =
     let front : lines_of rest ≡ line ∷ lines_of after = rw (line_is, after_is) (first_line rest at is within) in

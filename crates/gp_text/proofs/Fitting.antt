@@ -99,7 +99,8 @@ record Counts (parts : Parts) (known : Known) : Type 0 where
   channels : length parts.channels ≡ length (known Channels)
   mutexes : length parts.mutexes ≡ length (known Mutexes)
 
-use_fits : (parts : Parts) (known : Known) (W : List Stmt → Type 0) (line : ℕ) (verb : Verb) (name : List ℕ) → Counts parts known → is_among name (known (space_of verb)) ≡ true → IsAction parts W (action_of (statement line (action verb (place_of known verb name))))
+use_fits : (parts : Parts) (known : Known) (W : List Stmt → Type 0) (line : ℕ) (verb : Verb) (name : List ℕ) → Counts parts known → is_among name (known (space_of verb)) ≡ true →
+    IsAction parts W (action_of (statement line (action verb (place_of known verb name))))
 use_fits parts known W line Call name counts among = let less = place_below (bytes_eq name) (known Functions) among in subst (IsAction parts W) (sym (action-call (place_of known Call name))) (omega (arith, counts.functions, less))
 use_fits parts known W line Spawn name counts among = let less = place_below (bytes_eq name) (known Functions) among in subst (IsAction parts W) (sym (action-spawn (place_of known Spawn name))) (omega (arith, counts.functions, less))
 use_fits parts known W line Send name counts among = let less = place_below (bytes_eq name) (known Channels) among in subst (IsAction parts W) (sym (action-send (place_of known Send name))) (omega (arith, counts.channels, less))
@@ -127,7 +128,8 @@ body_fits parts known line (Work n ∷ after) counts fit usable = (subst (IsActi
 body_fits parts known line (Use verb name ∷ after) counts fit usable = (use_fits parts known (AreStatements parts most_loops) line verb name counts (known_name known verb name usable.0), body_fits parts known (line + 1) after counts fit.1 usable.1)
 body_fits parts known line (s ∷ after) counts fit usable = body_fits parts known (line + 1) after counts fit.1 usable.1
 
-functions_fit : (parts : Parts) (known : Known) (line : ℕ) (said : List Said) → Counts parts known → AllByRecursion Fits said → AllByRecursion (IsKnown known) said → AllByRecursion (λ (f : Function). AreStatements parts most_bodies f.body) (functions_at known line said)
+functions_fit : (parts : Parts) (known : Known) (line : ℕ) (said : List Said) → Counts parts known → AllByRecursion Fits said → AllByRecursion (IsKnown known) said →
+    AllByRecursion (λ (f : Function). AreStatements parts most_bodies f.body) (functions_at known line said)
 unfolding functions_at
 functions_fit parts known line [] counts fit usable = tt
 functions_fit parts known line (Header name ∷ after) counts fit usable =

@@ -46,7 +46,8 @@ pub few_known : (known : Known) (said : List Said) → known ≡ known_of said �
 few_known known said is short space = let e : length (known space) ≡ length (names space said) = ap (λ (k : Known). length (k space)) is in omega (arith, few_names space said)
 
 -- the parts that are built
-pub parts_are : (fs : List Function) (cs : List ChannelDecl) (ms : List MutexDecl) (ls : List LabelSet) (known : Known) (said : List Said) → fs ≡ functions_at known 1 said → cs ≡ channels_at 1 said → ms ≡ mutexes_at 1 said → ls ≡ [] → known ≡ known_of said
+pub parts_are : (fs : List Function) (cs : List ChannelDecl) (ms : List MutexDecl) (ls : List LabelSet) (known : Known) (said : List Said) → fs ≡ functions_at known 1 said → cs ≡ channels_at 1 said → ms ≡ mutexes_at 1 said → ls ≡ [] →
+    known ≡ known_of said
     → record { functions = fs; channels = cs; mutexes = ms; labels = ls } ≡ parts_of said
 parts_are fs cs ms ls known said f c m l k =
     let whole : fs ≡ functions_at (known_of said) 1 said = f ∙ ap (λ (n : Known). functions_at n 1 said) k in
@@ -83,10 +84,12 @@ pub refused_first : (bytes : List ℕ) (said : List Said) (e : TextError) → sa
 refused_first bytes said (Refused line cause) is h = judged_of bytes said is ∙ first_refuses said line cause h
 refused_first bytes said Memory is h = tt
 
-pub refused_second : (bytes : List ℕ) (said : List Said) (known : Known) (at : ℕ) → said ≡ map said_of (lines_of bytes) → first_fault [] said ≡ None → known ≡ known_of said → position (is_unknown known) said ≡ Some at → program_of bytes ≡ Refuses (at + 1) cause.UnknownName
+pub refused_second : (bytes : List ℕ) (said : List Said) (known : Known) (at : ℕ) → said ≡ map said_of (lines_of bytes) → first_fault [] said ≡ None → known ≡ known_of said → position (is_unknown known) said ≡ Some at →
+    program_of bytes ≡ Refuses (at + 1) cause.UnknownName
 refused_second bytes said known at is first same h = judged_of bytes said is ∙ second_refuses said at first (ap (λ (k : Known). position (is_unknown k) said) (sym same) ∙ h)
 
-pub judged_third : (bytes : List ℕ) (said : List Said) (known : Known) (parts : Parts) → said ≡ map said_of (lines_of bytes) → first_fault [] said ≡ None → known ≡ known_of said → position (is_unknown known) said ≡ None → parts ≡ parts_of said → checked parts ≡ program_of bytes
+pub judged_third : (bytes : List ℕ) (said : List Said) (known : Known) (parts : Parts) → said ≡ map said_of (lines_of bytes) → first_fault [] said ≡ None → known ≡ known_of said → position (is_unknown known) said ≡ None → parts ≡ parts_of said →
+    checked parts ≡ program_of bytes
 judged_third bytes said known parts is first same h built = ap checked built ∙ sym (judged_of bytes said is ∙ third_judges said first (ap (λ (k : Known). position (is_unknown k) said) (sym same) ∙ h))
 
 named_of : (bytes : List ℕ) (said : List Said) → said ≡ map said_of (lines_of bytes) → AllByRecursion Named said
@@ -109,7 +112,8 @@ none_passes p xs h = elim (told (nat_lt (position_or_len p xs) (length xs))) [
   | inr f ↦ none_before p xs (grind (arith, nat_tests))
 ]
 
-pub limits : (bytes : List ℕ) (said : List Said) (known : Known) (parts : Parts) → said ≡ map said_of (lines_of bytes) → first_fault [] said ≡ None → known ≡ known_of said → position (is_unknown known) said ≡ None → parts ≡ parts_of said → AreInLimits parts
+pub limits : (bytes : List ℕ) (said : List Said) (known : Known) (parts : Parts) → said ≡ map said_of (lines_of bytes) → first_fault [] said ≡ None → known ≡ known_of said → position (is_unknown known) said ≡ None → parts ≡ parts_of said →
+    AreInLimits parts
 limits bytes said known parts is first same none built =
     let usable = none_passes (is_unknown (known_of said)) said (ap (λ (k : Known). position (is_unknown k) said) (sym same) ∙ none) in
     subst AreInLimits (sym built) (in_limits said (named_of bytes said is) (sound_of said first) usable)

@@ -49,7 +49,8 @@ pub record AreLinked (next : List ℕ) (since : List ℕ) (lines : List Line) : 
   pub clocks : length since ≡ length next
   pub once : (g : ℕ) → sum_by (in_line g) (lines_of next since lines) ≤ 1
   pub within : (g : ℕ) → length next ≤ g → sum_by (in_line g) (lines_of next since lines) ≡ 0
-  pub tails : (i : ℕ) → 0 < (get_or lines i no_line).length → (get_or lines i no_line).tail ≡ behind next (get_or lines i no_line).head ((get_or lines i no_line).length - 1)
+  pub tails : (i : ℕ) → let line = get_or lines i no_line in
+      0 < line.length → line.tail ≡ behind next line.head (line.length - 1)
 
 -- the links once g stands behind the tail of a line
 abbrev pub linked : List ℕ → Line → ℕ → List ℕ

@@ -27,31 +27,40 @@ pub look_at-returns-then-h-len : goal.look_at-returns-then-h-len
 look_at-returns-then-h-len t c = at_no_function c.args.program.now c.args.calls c.args.loops c.args.statements.now c.args.at c.args.limit c.in-Call.h c.in-Call.ensures.ahead (rw (← c.parts.ensures.parts, ← c.len.ensures) c.if-h-len.true)
 
 pub look_at-returns-else-h-len : goal.look_at-returns-else-h-len
-look_at-returns-else-h-len t c = at_call c.args.program.now c.args.calls c.args.loops c.args.statements.now c.args.at c.args.limit c.in-Call.h c.function_body-called.result.now c.look_on.result c.in-Call.ensures.ahead (omega arith) (rw (c.function_body-called.ensures, c.parts-in-Call.ensures.parts) refl) c.look_on.ensures
+look_at-returns-else-h-len t c = at_call c.args.program.now c.args.calls c.args.loops c.args.statements.now c.args.at c.args.limit c.in-Call.h c.function_body-called.result.now c.look_on.result c.in-Call.ensures.ahead (omega arith)
+    (rw (c.function_body-called.ensures, c.parts-in-Call.ensures.parts) refl) c.look_on.ensures
 
 pub look_on-overflow_add-local : goal.look_on-overflow_add-local
-look_on-overflow_add-local t c = let h : c.look_at-seen.result.local ≤ c.args.limit - c.loop-at.local = seen_few c.args.program.now c.args.calls c.args.loops c.args.statements.now c.loop-at.at c.args.limit c.loop-at.local c.look_at-seen.result c.loop-at-test.true c.look_at-seen.ensures in omega (arith, c.loop-at.invariant.few)
+look_on-overflow_add-local t c = let h : c.look_at-seen.result.local ≤ c.args.limit - c.loop-at.local = seen_few c.args.program.now c.args.calls c.args.loops c.args.statements.now c.loop-at.at c.args.limit c.loop-at.local c.look_at-seen.result
+    c.loop-at-test.true c.look_at-seen.ensures in omega (arith, c.loop-at.invariant.few)
 
 pub look_on-returns-then-not-is_over : goal.look_on-returns-then-not-is_over
-look_on-returns-then-not-is_over t c = seen_stop c.args.program.now c.args.calls c.args.loops c.args.statements.now c.args.from c.loop-at.at c.args.limit c.loop-at.local c.look_at-seen.result c.loop-at-test.true c.look_at-seen.ensures c.loop-at.invariant.sees c.if-not-is_over.ensures.more
+look_on-returns-then-not-is_over t c = seen_stop c.args.program.now c.args.calls c.args.loops c.args.statements.now c.args.from c.loop-at.at c.args.limit c.loop-at.local c.look_at-seen.result c.loop-at-test.true c.look_at-seen.ensures
+    c.loop-at.invariant.sees c.if-not-is_over.ensures.more
 
 pub look_on-loop-at-preserved : goal.look_on-loop-at-preserved
 look_on-loop-at-preserved t c = record {
-  few = (let h : c.look_at-seen.result.local ≤ c.args.limit - c.loop-at.local = seen_few c.args.program.now c.args.calls c.args.loops c.args.statements.now c.loop-at.at c.args.limit c.loop-at.local c.look_at-seen.result c.loop-at-test.true c.look_at-seen.ensures in omega (arith, c.loop-at.invariant.few));
-  sees = seen_on c.args.program.now c.args.calls c.args.loops c.args.statements.now c.args.from c.loop-at.at c.args.limit c.loop-at.local c.look_at-seen.result c.loop-at-test.true c.look_at-seen.ensures c.loop-at.invariant.sees c.if-not-is_over.ensures.over;
+  few = (let h : c.look_at-seen.result.local ≤ c.args.limit - c.loop-at.local = seen_few c.args.program.now c.args.calls c.args.loops c.args.statements.now c.loop-at.at c.args.limit c.loop-at.local c.look_at-seen.result c.loop-at-test.true
+      c.look_at-seen.ensures in omega (arith, c.loop-at.invariant.few));
+  sees = seen_on c.args.program.now c.args.calls c.args.loops c.args.statements.now c.args.from c.loop-at.at c.args.limit c.loop-at.local c.look_at-seen.result c.loop-at-test.true c.look_at-seen.ensures c.loop-at.invariant.sees
+      c.if-not-is_over.ensures.over;
 }
 
 pub look_on-returns : goal.look_on-returns
 look_on-returns t c = seen_end c.args.program.now c.args.calls c.args.loops c.args.statements.now c.args.from c.loop-at.at c.args.limit c.loop-at.local (omega arith) c.loop-at.invariant.sees
 
 pub look_turns-overflow_add-local : goal.look_turns-overflow_add-local
-look_turns-overflow_add-local t c = let h : c.look_on-seen.result.local ≤ c.args.limit - c.loop-turns.local = turn_few c.args.program.now c.args.calls c.args.loops c.args.statements.now c.args.limit c.loop-turns.local c.look_on-seen.result c.look_on-seen.ensures in omega (arith, c.loop-turns.invariant.few)
+look_turns-overflow_add-local t c = let h : c.look_on-seen.result.local ≤ c.args.limit - c.loop-turns.local = turn_few c.args.program.now c.args.calls c.args.loops c.args.statements.now c.args.limit c.loop-turns.local c.look_on-seen.result
+    c.look_on-seen.ensures in omega (arith, c.loop-turns.invariant.few)
 
 pub look_turns-returns-then-not-is_over : goal.look_turns-returns-then-not-is_over
-look_turns-returns-then-not-is_over t c = turn_stop c.args.program.now c.args.calls c.args.loops c.args.statements.now c.args.n c.loop-turns.turns c.args.limit c.loop-turns.local c.look_on-seen.result (omega arith) c.look_on-seen.ensures c.loop-turns.invariant.sees c.if-not-is_over.ensures.more
+look_turns-returns-then-not-is_over t c = turn_stop c.args.program.now c.args.calls c.args.loops c.args.statements.now c.args.n c.loop-turns.turns c.args.limit c.loop-turns.local c.look_on-seen.result (omega arith) c.look_on-seen.ensures
+    c.loop-turns.invariant.sees c.if-not-is_over.ensures.more
 
 pub look_turns-loop-turns-preserved : goal.look_turns-loop-turns-preserved
 look_turns-loop-turns-preserved t c = record {
-  few = (let h : c.look_on-seen.result.local ≤ c.args.limit - c.loop-turns.local = turn_few c.args.program.now c.args.calls c.args.loops c.args.statements.now c.args.limit c.loop-turns.local c.look_on-seen.result c.look_on-seen.ensures in omega (arith, c.loop-turns.invariant.few));
-  sees = turn_on c.args.program.now c.args.calls c.args.loops c.args.statements.now c.args.n c.loop-turns.turns c.args.limit c.loop-turns.local c.look_on-seen.result (omega arith) c.look_on-seen.ensures c.loop-turns.invariant.sees c.if-not-is_over.ensures.over;
+  few = (let h : c.look_on-seen.result.local ≤ c.args.limit - c.loop-turns.local = turn_few c.args.program.now c.args.calls c.args.loops c.args.statements.now c.args.limit c.loop-turns.local c.look_on-seen.result c.look_on-seen.ensures in
+      omega (arith, c.loop-turns.invariant.few));
+  sees = turn_on c.args.program.now c.args.calls c.args.loops c.args.statements.now c.args.n c.loop-turns.turns c.args.limit c.loop-turns.local c.look_on-seen.result (omega arith) c.look_on-seen.ensures c.loop-turns.invariant.sees
+      c.if-not-is_over.ensures.over;
 }

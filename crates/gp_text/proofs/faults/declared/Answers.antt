@@ -8,7 +8,8 @@ returns-in-Some-clause-refused c = found c.loop-at.before.inside (kept c.loop-at
 
 pub loop-at-preserved : goal.loop-at-preserved
 loop-at-preserved c =
-    passed c.loop-at.before.inside c.pass.new.self.inside (kept c.loop-at.before.spaces) (kept c.pass.new.self.spaces) c.loop-at.at c.args.said.now c.index-said-at.result c.loop-at.invariant c.loop-at-test.true c.index-said-at.is (sym c.in_default.ensures)
+    passed c.loop-at.before.inside c.pass.new.self.inside (kept c.loop-at.before.spaces) (kept c.pass.new.self.spaces) c.loop-at.at c.args.said.now c.index-said-at.result c.loop-at.invariant c.loop-at-test.true c.index-said-at.is
+    (sym c.in_default.ensures)
     c.in_ok-pass.ensures.inside c.in_ok-pass.ensures.names
 
 pub returns-then-inside-clause-refused : goal.returns-then-inside-clause-refused

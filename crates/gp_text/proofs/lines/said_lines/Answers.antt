@@ -6,7 +6,8 @@ use Rattle.gp_text.proofs.lines.said_lines.Goals.{then-not-is_empty+in_ok-push-2
 pub loop-at-preserved : goal.loop-at-preserved
 loop-at-preserved c =
     let pushed = c.in_ok-push.ensures.items in (
-      read_line c.loop-at.all.items c.push.new.self.items c.loop-at.rest.now c.cut_at.result.0.now c.cut_at.result.1.now c.args.bytes.now c.in-Some.at c.loop-at.invariant.0 (sym c.in-Some.ensures.place) c.in-Some.ensures.within c.cut_at.ensures.head c.cut_at.ensures.rest
+      read_line c.loop-at.all.items c.push.new.self.items c.loop-at.rest.now c.cut_at.result.0.now c.cut_at.result.1.now c.args.bytes.now c.in-Some.at c.loop-at.invariant.0 (sym c.in-Some.ensures.place) c.in-Some.ensures.within
+          c.cut_at.ensures.head c.cut_at.ensures.rest
           (pushed ∙ ap (λ s. c.loop-at.all.items ++ s ∷ []) c.said.ensures),
       read_few c.loop-at.all.items c.push.new.self.items c.said.result c.loop-at.rest.now c.cut_at.result.1.now _ c.in-Some.at c.loop-at.invariant.1 c.in-Some.ensures.within c.cut_at.ensures.rest pushed,
     )

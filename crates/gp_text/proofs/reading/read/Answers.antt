@@ -12,13 +12,15 @@ returns-in_err-spaces-clause-refused c =
 
 pub returns-in-Some-clause-refused : goal.returns-in-Some-clause-refused
 returns-in-Some-clause-refused c =
-    refused_second c.args.bytes.now c.as_slice-said.result.now (kept c.in_ok-spaces.spaces) c.in-Some.at (c.as_slice-said.ensures.value ∙ c.in_ok-lines.ensures.lines) c.in_ok-spaces.ensures.sound c.in_ok-spaces.ensures.names (sym c.in-Some.ensures.place)
+    refused_second c.args.bytes.now c.as_slice-said.result.now (kept c.in_ok-spaces.spaces) c.in-Some.at (c.as_slice-said.ensures.value ∙ c.in_ok-lines.ensures.lines) c.in_ok-spaces.ensures.sound c.in_ok-spaces.ensures.names
+    (sym c.in-Some.ensures.place)
 
 pub parts-requires-clause-can : goal.parts-requires-clause-can
 parts-requires-clause-can c = can_build c.args.bytes.now c.as_slice-said.result.now (c.as_slice-said.ensures.value ∙ c.in_ok-lines.ensures.lines) c.in_ok-spaces.ensures.sound
 
 pub checked-requires : goal.checked-requires
-checked-requires c = limits c.args.bytes.now c.as_slice-said.result.now (kept c.in_ok-spaces.spaces) _ (c.as_slice-said.ensures.value ∙ c.in_ok-lines.ensures.lines) c.in_ok-spaces.ensures.sound c.in_ok-spaces.ensures.names (sym c.in_default.ensures.place) c.in_ok-parts.ensures
+checked-requires c = limits c.args.bytes.now c.as_slice-said.result.now (kept c.in_ok-spaces.spaces) _ (c.as_slice-said.ensures.value ∙ c.in_ok-lines.ensures.lines) c.in_ok-spaces.ensures.sound c.in_ok-spaces.ensures.names
+    (sym c.in_default.ensures.place) c.in_ok-parts.ensures
 
 pub parts-requires-clause-names : goal.parts-requires-clause-names
 parts-requires-clause-names c = c.in_ok-spaces.ensures.names
@@ -26,11 +28,13 @@ parts-requires-clause-names c = c.in_ok-spaces.ensures.names
 pub returns-clause-ok : goal.returns-clause-ok
 returns-clause-ok c =
     subst (λ (reading : Reading). IfOk c.checked.result (λ program. reading ≡ Gives program))
-    (judged_third c.args.bytes.now c.as_slice-said.result.now (kept c.in_ok-spaces.spaces) c.in_ok-parts.parts (c.as_slice-said.ensures.value ∙ c.in_ok-lines.ensures.lines) c.in_ok-spaces.ensures.sound c.in_ok-spaces.ensures.names (sym c.in_default.ensures.place) c.in_ok-parts.ensures)
+    (judged_third c.args.bytes.now c.as_slice-said.result.now (kept c.in_ok-spaces.spaces) c.in_ok-parts.parts (c.as_slice-said.ensures.value ∙ c.in_ok-lines.ensures.lines) c.in_ok-spaces.ensures.sound c.in_ok-spaces.ensures.names
+    (sym c.in_default.ensures.place) c.in_ok-parts.ensures)
     c.checked.ensures.ok
 
 pub returns-clause-refused : goal.returns-clause-refused
 returns-clause-refused c =
     subst (λ (reading : Reading). IfErr c.checked.result (IsRefusalOf reading))
-    (judged_third c.args.bytes.now c.as_slice-said.result.now (kept c.in_ok-spaces.spaces) c.in_ok-parts.parts (c.as_slice-said.ensures.value ∙ c.in_ok-lines.ensures.lines) c.in_ok-spaces.ensures.sound c.in_ok-spaces.ensures.names (sym c.in_default.ensures.place) c.in_ok-parts.ensures)
+    (judged_third c.args.bytes.now c.as_slice-said.result.now (kept c.in_ok-spaces.spaces) c.in_ok-parts.parts (c.as_slice-said.ensures.value ∙ c.in_ok-lines.ensures.lines) c.in_ok-spaces.ensures.sound c.in_ok-spaces.ensures.names
+    (sym c.in_default.ensures.place) c.in_ok-parts.ensures)
     c.checked.ensures.refused

@@ -47,7 +47,8 @@ pub returns-else-n-left-clause-stands : goal.returns-else-n-left-clause-stands
 returns-else-n-left-clause-stands c =
     let w : c.args.self.now.count + c.args.n ≤ length (trace c.args.program.now c.args.self.now.start) = within_ahead (trace c.args.program.now c.args.self.now.start) c.args.self.now.count c.args.n c.requires.stands.within c.requires.ahead in
     let part : c.args.self.now.passed < c.in-Work.of = c.requires.stands.part _ c.in-Work.ensures.ahead in
-    stands_work c.args.program.now c.args.self.now c.pass.new.self c.in-Work.of (c.in-Work.of - c.args.self.now.passed) c.in-Work.ensures.ahead c.requires.stands c.pass.ensures.place c.pass.ensures.left c.pass.ensures.settled (omega arith) (omega arith)
+    stands_work c.args.program.now c.args.self.now c.pass.new.self c.in-Work.of (c.in-Work.of - c.args.self.now.passed) c.in-Work.ensures.ahead c.requires.stands c.pass.ensures.place c.pass.ensures.left c.pass.ensures.settled (omega arith)
+    (omega arith)
 
 pub returns-in-Labels-clause-stands : goal.returns-in-Labels-clause-stands
 returns-in-Labels-clause-stands c =

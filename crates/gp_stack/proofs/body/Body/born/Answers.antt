@@ -20,4 +20,5 @@ returns-clause-stands c = record {
 
 pub begin-requires-clause-whole : goal.begin-requires-clause-whole
 begin-requires-clause-whole c =
-    subst (λ calls. trace_within c.args.program.now calls c.args.start ≡ trace c.args.program.now c.args.start) (sym c.most_calls-calls.ensures.calls) (whole_within c.args.program.now c.most_calls-calls.ensures.program c.args.start c.requires.function)
+    subst (λ calls. trace_within c.args.program.now calls c.args.start ≡ trace c.args.program.now c.args.start) (sym c.most_calls-calls.ensures.calls)
+    (whole_within c.args.program.now c.most_calls-calls.ensures.program c.args.start c.requires.function)

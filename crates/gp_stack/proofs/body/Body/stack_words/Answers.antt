@@ -26,7 +26,8 @@ loop-written-preserved c =
     record {
       few = omega (arith, length-set c.loop-written.to c.loop-written.written c.word-in-Some.result);
       there = there_more (frames_of c.args.program.now c.args.self.now.place) _ c.in-Some.frame c.loop-written.written next;
-      words = rw c.word-in-Some.ensures (words_more (frames_of c.args.program.now c.args.self.now.place) (frames_left c.args.program.now c.args.self.now.place c.next.new.self) c.in-Some.frame c.loop-written.to c.loop-written.written within next c.loop-written.invariant.words);
+      words = rw c.word-in-Some.ensures (words_more (frames_of c.args.program.now c.args.self.now.place) (frames_left c.args.program.now c.args.self.now.place c.next.new.self) c.in-Some.frame c.loop-written.to c.loop-written.written within next
+          c.loop-written.invariant.words);
       left = left_more (frames_of c.args.program.now c.args.self.now.place) _ c.in-Some.frame c.loop-written.written next;
       rest = rest_more c.loop-written.to c.args.to.now c.loop-written.written c.word-in-Some.result c.loop-written.invariant.rest;
       within = c.in-Some.ensures.within;

@@ -11,7 +11,8 @@ returns-then-not-is_over c xs is = past_stop xs (steps (left c.args.program.now 
 
 pub overflow_add-result : goal.overflow_add-result
 overflow_add-result c =
-    let few : c.look_behind-rest.result.local ≤ c.args.limit - c.args.first.local = peek_few (steps (left c.args.program.now (stepped (levels c.args.self.now)))) (c.args.limit - c.args.first.local) c.look_behind-rest.result c.look_behind-rest.ensures in
+    let few : c.look_behind-rest.result.local ≤ c.args.limit - c.args.first.local = peek_few (steps (left c.args.program.now (stepped (levels c.args.self.now)))) (c.args.limit - c.args.first.local) c.look_behind-rest.result
+    c.look_behind-rest.ensures in
     omega arith
 
 pub returns : goal.returns
