@@ -13,7 +13,8 @@ use Rattle.gp_journal.specs.Frozen.{row, frozen, rows_taken, sorted}
 abbrev pub records_from : Code → Settings → State → List Entry → List (List Row)
 records_from code settings state [] = []
 records_from code settings state (Open epoch room ∷ entries) =
-    let opened = after code settings state (Open epoch room) in rows_taken code settings opened entries ∷ records_from code settings opened entries
+    let opened = after code settings state (Open epoch room) in
+    rows_taken code settings opened entries ∷ records_from code settings opened entries
 records_from code settings state (entry ∷ entries) = records_from code settings (after code settings state entry) entries
 
 -- The records of each profile of a journal, by epoch.
@@ -22,7 +23,8 @@ records_of code settings journal = records_from code settings (first code settin
 
 -- Each profile's records, sorted by number, are the rows of all goroutines that were live at its Open, each once.
 abbrev pub AreFrozen : Code → Settings → List Entry → List (List Row) → Type 0
-AreFrozen code settings journal records = (before : List Entry) (epoch room : ℕ) (during : List Entry) → journal ≡ before ++ Open epoch room ∷ during →
+AreFrozen code settings journal records = (before : List Entry) (epoch room : ℕ) (during : List Entry) →
+    journal ≡ before ++ Open epoch room ∷ during →
     sorted (get_or records (epoch - 1) []) ≡ frozen code (last code settings before)
 
 -- The last of some lists of rows.

@@ -17,5 +17,6 @@ IsRecordOf parts row = All (λ (frame : Frame). frame.function < length parts.fu
 
 -- The records of a legal journal are records of its program, where that lies in the limits.
 abbrev pub RecordsAreThere : Type 0
-RecordsAreThere = (parts : Parts) (settings : Settings) (journal : List Entry) → AreInLimits parts → IsLegal (code_of parts) settings journal →
+RecordsAreThere = (parts : Parts) (settings : Settings) (journal : List Entry) →
+    AreInLimits parts → IsLegal (code_of parts) settings journal →
     All (All (IsRecordOf parts)) (records_of (code_of parts) settings journal)

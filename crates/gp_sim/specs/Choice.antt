@@ -39,7 +39,9 @@ goes_on settings state None = Close state.active
 -- It opens a profile that is asked for once nobody runs, and refuses it where more goroutines are live than the room
 -- allows.
 abbrev pub answers : Settings → State → Entry
-answers settings state = if nat_le (live state) settings.room then Open (state.last_epoch + 1) settings.room else Refuse settings.room (live state)
+answers settings state =
+    if nat_le (live state) settings.room then Open (state.last_epoch + 1) settings.room
+    else Refuse settings.room (live state)
 
 abbrev pub profiler_action : Settings → State → Option Entry
 profiler_action settings state =
@@ -89,7 +91,8 @@ entries_of (Some turn) behind = turn.entry ∷ behind turn
 abbrev pub entries_from : Code → Settings → ℕ → State → ℕ → List Entry
 entries_from code settings zero state taken = []
 entries_from code settings (suc turns) state taken =
-    entries_of (chosen settings taken (actions code settings state)) (λ turn. entries_from code settings turns (after code settings state turn.entry) turn.taken)
+    entries_of (chosen settings taken (actions code settings state))
+    (λ turn. entries_from code settings turns (after code settings state turn.entry) turn.taken)
 
 -- The journal that the choice gives. A legal journal has no more entries than there are turns here.
 unfoldable pub sim_journal : Code → Settings → List Entry

@@ -17,8 +17,10 @@ ChoiceIsLegal = (code : Code) (settings : Settings) (journal : List Entry) → A
 
 -- So the entry of a turn is legal, however many numbers were taken, and whatever they are.
 abbrev pub TurnsAreLegal : Type 0
-TurnsAreLegal = (code : Code) (settings : Settings) (journal : List Entry) (taken : ℕ) (turn : Turn) → AreInRange settings → IsLegal code settings journal →
-    let state = last code settings journal in chosen settings taken (actions code settings state) ≡ Some turn → May code settings state turn.entry
+TurnsAreLegal = (code : Code) (settings : Settings) (journal : List Entry) (taken : ℕ) (turn : Turn) →
+    AreInRange settings → IsLegal code settings journal →
+    let state = last code settings journal in
+    chosen settings taken (actions code settings state) ≡ Some turn → May code settings state turn.entry
 
 -- Where no actor can act the run is complete.
 abbrev pub EndIsComplete : Type 0

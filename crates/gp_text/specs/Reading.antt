@@ -60,7 +60,8 @@ end_at line (s ∷ after) = if is_close s then line else end_at (line + 1) after
 
 -- the function that a line opens, with the lines after it
 abbrev pub function_of : Known → ℕ → Said → List Said → Option Function
-function_of known line (Header name) after = Some (record { name = name; line = line; end = end_at (line + 1) after; body = body_at known (line + 1) after })
+function_of known line (Header name) after =
+    Some (record { name = name; line = line; end = end_at (line + 1) after; body = body_at known (line + 1) after })
 function_of known line _ after = None
 
 -- the channel and the mutex that a line declares
@@ -87,7 +88,12 @@ mutexes_at line (s ∷ after) = option_to_list (mutex_of line s) ++ mutexes_at (
 
 -- What the lines of a file declare, each on its line, counted from 1. Names may be declared behind their use.
 abbrev pub parts_of : List Said → Parts
-parts_of said = record { functions = functions_at (known_of said) 1 said; channels = channels_at 1 said; mutexes = mutexes_at 1 said; labels = [] }
+parts_of said = record {
+  functions = functions_at (known_of said) 1 said;
+  channels = channels_at 1 said;
+  mutexes = mutexes_at 1 said;
+  labels = [];
+}
 
 -- A file gives parts that are a program, or is refused.
 pub data Reading : Type 0 where

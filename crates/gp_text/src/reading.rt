@@ -27,7 +27,8 @@ fn header_lines(alloc: Global, parts: &Parts) -> Result<Vec<u32>, Memory>
 
 // The refusal for a cause that stands at a function's header.
 fn at_header(lines: &[u32], function: u32, cause: Cause) -> TextError
-    ensures { (parts : Parts) → lines.now ≡ map (λ (f : Function). f.line) parts.functions → result ≡ TextError.Refused (header_line parts function) cause }
+    ensures { (parts : Parts) → lines.now ≡ map (λ (f : Function). f.line) parts.functions →
+        result ≡ TextError.Refused (header_line parts function) cause }
 {
     TextError::Refused {
         line: lines.get(function as usize).copied().unwrap_or(0),
@@ -38,7 +39,8 @@ fn at_header(lines: &[u32], function: u32, cause: Cause) -> TextError
 // Why parts with headers on these lines are no program.
 #[tactic(auto, unfolding(crate::specs::Reading::checked))]
 fn refusal(lines: &[u32], bad: Bad) -> TextError
-    ensures { (parts : Parts) → lines.now ≡ map (λ (f : Function). f.line) parts.functions → IsCause parts bad → IsRefusalOf (checked parts) result }
+    ensures { (parts : Parts) → lines.now ≡ map (λ (f : Function). f.line) parts.functions →
+        IsCause parts bad → IsRefusalOf (checked parts) result }
 {
     match bad {
         Bad::NoMain => TextError::Refused {

@@ -21,7 +21,8 @@ pub record SoFar : Type 0 where
 
 -- the next turn, where some actor can act
 abbrev pub next_turn : Parts → Settings → SoFar → Option Turn
-next_turn program settings before = chosen settings before.taken (actions (code_of program) settings (state_of program settings before.journal))
+next_turn program settings before =
+    chosen settings before.taken (actions (code_of program) settings (state_of program settings before.journal))
 
 -- what there is after a turn, where there was one
 abbrev pub after_turn : SoFar → Option Turn → SoFar

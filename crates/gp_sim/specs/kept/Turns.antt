@@ -13,4 +13,5 @@ pub record IsPartOfSim (code : Code) (settings : Settings) (journal : List Entry
   pub legal : IsLegal code settings journal
   pub taken_bound : taken ≤ length journal
   pub length_bound : length journal ≤ most_entries settings
-  pub continues : sim_journal code settings ≡ journal ++ entries_from code settings (most_entries settings - length journal) (last code settings journal) taken
+  pub continues : sim_journal code settings
+      ≡ journal ++ entries_from code settings (most_entries settings - length journal) (last code settings journal) taken
