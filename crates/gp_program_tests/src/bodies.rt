@@ -344,9 +344,9 @@ fn expected_cut(alloc: Global, count: u32, max: u32, few: u32) -> Result<String,
 }
 
 fn first_other_cut(alloc: Global) -> Result<Option<String>, Fail> {
-    for (count, max, frames) in CUTS {
-        let got = cut(alloc, count, max)?;
-        if got.as_str() != expected_cut(alloc, count, max, frames)?.as_str() {
+    for (count, max, frames) in &CUTS {
+        let got = cut(alloc, *count, *max)?;
+        if got.as_str() != expected_cut(alloc, *count, *max, *frames)?.as_str() {
             return Ok(Some(got));
         }
     }

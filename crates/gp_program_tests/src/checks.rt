@@ -110,9 +110,9 @@ const OUTCOMES: [(&str, &str); 21] = [
 
 // What comes of the first functions of which something else comes.
 fn first_other(alloc: Global) -> Result<Option<String>, Fail> {
-    for (text, expected) in OUTCOMES {
+    for (text, expected) in &OUTCOMES {
         let got = outcome(alloc, parts_of(alloc, text)?)?;
-        if got.as_str() != expected {
+        if got.as_str() != *expected {
             return Ok(Some(got));
         }
     }

@@ -92,9 +92,9 @@ const PARTS: [(&str, bool); 48] = [
 
 // The first parts of which it isn't so.
 fn first_other(alloc: Global) -> Result<Option<&'static str>, Fail> {
-    for (text, fit) in PARTS {
-        if fits(alloc, text)? != fit {
-            return Ok(Some(text));
+    for (text, fit) in &PARTS {
+        if fits(alloc, text)? != *fit {
+            return Ok(Some(*text));
         }
     }
     Ok(None)
@@ -141,10 +141,10 @@ fn named(alloc: Global, before: &str, behind: &str, names: &str) -> Result<Strin
 
 // The first declarations of which it isn't so.
 fn first_other_names(alloc: Global) -> Result<Option<String>, Fail> {
-    for (before, behind, _) in KINDS {
-        for (names, fit) in NAMES {
+    for (before, behind, _) in &KINDS {
+        for (names, fit) in &NAMES {
             let text = named(alloc, before, behind, names)?;
-            if fits(alloc, text.as_str())? != fit {
+            if fits(alloc, text.as_str())? != *fit {
                 return Ok(Some(text));
             }
         }
@@ -169,12 +169,12 @@ fn so_many_fit(alloc: Global, before: &str, behind: &str, count: u32) -> Result<
 
 // The first kind of which the most don't fit, or one more does.
 fn first_other_count(alloc: Global) -> Result<Option<&'static str>, Fail> {
-    for (before, behind, most) in KINDS {
-        if !so_many_fit(alloc, before, behind, most)? {
-            return Ok(Some(before));
+    for (before, behind, most) in &KINDS {
+        if !so_many_fit(alloc, before, behind, *most)? {
+            return Ok(Some(*before));
         }
         if so_many_fit(alloc, before, behind, most.saturating_add(1))? {
-            return Ok(Some(before));
+            return Ok(Some(*before));
         }
     }
     Ok(None)

@@ -73,9 +73,9 @@ const READINGS: [(&[u8], &str); 26] = [
 
 // The first file of which something else comes, and what.
 fn first_other(alloc: Global) -> Result<Option<String>, Fail> {
-    for (file, expected) in READINGS {
+    for (file, expected) in &READINGS {
         let got = reading(alloc, file)?;
-        if got.as_str() != expected {
+        if got.as_str() != *expected {
             return Ok(Some(got));
         }
     }
@@ -169,9 +169,9 @@ const GRAPHS: [(Graph, u32, &str); 8] = [
 
 // What comes of the first graph of which something else comes.
 fn first_other_graph(alloc: Global) -> Result<Option<String>, Fail> {
-    for (of, count, expected) in GRAPHS {
-        let got = reading(alloc, text_of(alloc, of, count)?.as_bytes())?;
-        if got.as_str() != expected {
+    for (of, count, expected) in &GRAPHS {
+        let got = reading(alloc, text_of(alloc, *of, *count)?.as_bytes())?;
+        if got.as_str() != *expected {
             return Ok(Some(got));
         }
     }
@@ -208,14 +208,15 @@ fn sizes(alloc: Global, parts: &Parts) -> Result<String, AllocError> {
     Ok(text)
 }
 
+fn large_sizes(alloc: Global) -> Result<String, Fail> {
+    let program = program_in(alloc, large(alloc)?.as_bytes())?;
+    Ok(sizes(alloc, program.parts())?)
+}
+
 #[test]
 fn a_file_above_64_kibibytes_is_read_whole(rt: HostRuntime) -> Result<(), Fail> {
-    let text = large(rt.alloc())?;
-    let program = program_in(rt.alloc(), text.as_bytes())?;
-    assert_eq!(rt;
-        sizes(rt.alloc(), program.parts())?.as_str(),
-        "1-10002: 10000; 10004-10006: 1; 1"
-    );
+    let expected = "1-10002: 10000; 10004-10006: 1; 1";
+    assert_eq!(rt; large_sizes(rt.alloc())?.as_str(), expected);
     Ok(())
 }
 
@@ -294,10 +295,10 @@ const LISTINGS: [(&[u8], &str); 4] = [
 
 // The parts of the first file that are others.
 fn first_other_listing(alloc: Global) -> Result<Option<String>, Fail> {
-    for (file, expected) in LISTINGS {
+    for (file, expected) in &LISTINGS {
         let program = program_in(alloc, file)?;
         let got = listing(alloc, program.parts())?;
-        if got.as_str() != expected {
+        if got.as_str() != *expected {
             return Ok(Some(got));
         }
     }
