@@ -8,8 +8,11 @@ use std::test::Fail;
 // A name and a unit.
 type Measure<'a> = (&'a str, &'a str);
 
-// The number that stands for the function of lost events. Tables have it in digits.
+// The number that stands for the function of lost events.
 const LOST: u32 = u32::MAX;
+
+// A sample: its stack, each site as function and line, and its values.
+type Row<'a> = (&'a [(u32, u32)], &'a [i64]);
 
 // Samples of a program of the file `a.gp`, and the bytes of their profile.
 #[derive(Clone, Copy)]
@@ -20,9 +23,7 @@ struct Case<'a> {
     period_type: Measure<'a>,
     period: i64,
     duration: i64,
-    /// The stack of each sample, each site as function and line, and its values.
-    stacks: &'a [&'a [(u32, u32)]],
-    values: &'a [&'a [i64]],
+    rows: &'a [Row<'a>],
     bytes: &'a [&'a str],
 }
 
@@ -50,9 +51,9 @@ fn sites(alloc: Global, frames: &[(u32, u32)]) -> Result<Sites, Memory> {
     Ok(sites)
 }
 
-fn samples(alloc: Global, case: &Case) -> Result<Vec<StackSample>, Memory> {
+fn samples(alloc: Global, rows: &[Row]) -> Result<Vec<StackSample>, Memory> {
     let mut samples = Vec::new(alloc);
-    for (frames, values) in case.stacks.iter().zip(case.values) {
+    for (frames, values) in rows {
         samples.push(StackSample {
             stack: sites(alloc, frames)?,
             set: 0,
@@ -77,7 +78,7 @@ fn holds(alloc: Global, case: &Case) -> Result<bool, Fail> {
 }
 
 fn have_bytes(alloc: Global, program: &Program, case: &Case) -> Result<bool, Fail> {
-    let samples = samples(alloc, case)?;
+    let samples = samples(alloc, case.rows)?;
     are_shown(alloc, program, samples.as_slice(), case)
 }
 
@@ -110,8 +111,7 @@ const CASES: [Case<'static>; 3] = [
         period_type: ("cpu", "nanoseconds"),
         period: 10_000_000,
         duration: 20_000_000,
-        stacks: &[&[(0, 2)]],
-        values: &[&[1, 10_000_000]],
+        rows: &[(&[(0, 2)], &[1, 10_000_000])],
         bytes: &[
             "0a0408011002", // sample type
             "0a0408031004", // sample type
@@ -137,8 +137,7 @@ const CASES: [Case<'static>; 3] = [
         period_type: ("cpu", "nanoseconds"),
         period: 1000,
         duration: 6000,
-        stacks: &[&[(0, 2)], &[(4_294_967_295, 0)]],
-        values: &[&[3, 3000], &[2, 2000]],
+        rows: &[(&[(0, 2)], &[3, 3000]), (&[(LOST, 0)], &[2, 2000])],
         bytes: &[
             "0a0408011002", // sample type
             "0a0408031004", // sample type
@@ -168,8 +167,7 @@ const CASES: [Case<'static>; 3] = [
         period_type: ("contentions", "count"),
         period: 1,
         duration: 0,
-        stacks: &[&[(1, 13)], &[(0, 9)]],
-        values: &[&[2, 12_000], &[1, 2000]],
+        rows: &[(&[(1, 13)], &[2, 12_000]), (&[(0, 9)], &[1, 2000])],
         bytes: &[
             "0a0408011002", // sample type
             "0a0408031004", // sample type

@@ -1,4 +1,4 @@
-use crate::program::{Set, checked, function, label_sets, parts};
+use crate::program::{Set, function, label_sets, parts, program_of_parts};
 use gp_build::goroutine_profile;
 use gp_isa::{Frame, Function, Functions, Memory, Program, Sequence};
 use gp_stack::{Record, Records};
@@ -43,7 +43,7 @@ fn numbered(alloc: Global, k: u32) -> Result<Function, Memory> {
 fn program(alloc: Global) -> Result<Program, Fail> {
     let labels = label_sets(alloc, SETS.as_slice())?;
     let functions = many_functions(alloc)?;
-    Ok(checked(alloc, parts(alloc, functions, labels)).ok_or("no program")?)
+    Ok(program_of_parts(alloc, parts(alloc, functions, labels)).ok_or("no program")?)
 }
 
 // One record for each of many stacks of 1 to 32 frames, and some with label sets.

@@ -31,13 +31,17 @@ pub fn function(alloc: Global, name: &str, line: u32) -> Result<Function, Memory
     })
 }
 
+fn pair(alloc: Global, key: &str, value: &str) -> Result<Pair, Memory> {
+    Ok(Pair {
+        key: Text::from_str(alloc, key)?,
+        value: Text::from_str(alloc, value)?,
+    })
+}
+
 fn label_set(alloc: Global, number: usize, set: Set) -> Result<LabelSet, Memory> {
     let mut pairs = Pairs::new(alloc);
     for (key, value) in set {
-        pairs.push(Pair {
-            key: Text::from_str(alloc, key)?,
-            value: Text::from_str(alloc, value)?,
-        })?;
+        pairs.push(pair(alloc, key, value)?)?;
     }
     Ok(LabelSet {
         name: Text::from_string(format!(in alloc; "set{number}")?),
@@ -73,7 +77,7 @@ pub fn parts(alloc: Global, functions: Functions, labels: LabelSets) -> Parts {
 }
 
 /// The program of parts, if they make one.
-pub fn checked(alloc: Global, parts: Parts) -> Option<Program> {
+pub fn program_of_parts(alloc: Global, parts: Parts) -> Option<Program> {
     if !parts.in_limits() {
         return None;
     }
@@ -88,7 +92,7 @@ pub fn program(alloc: Global, headers: &[Header], sets: &[Set]) -> Result<Progra
 
 fn program_of(alloc: Global, headers: &[Header], labels: LabelSets) -> Result<Program, Fail> {
     let functions = functions(alloc, headers)?;
-    Ok(checked(alloc, parts(alloc, functions, labels)).ok_or("no program")?)
+    Ok(program_of_parts(alloc, parts(alloc, functions, labels)).ok_or("no program")?)
 }
 
 /// Records of these rows.

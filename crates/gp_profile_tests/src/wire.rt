@@ -7,6 +7,9 @@ use gp_wire::{
 use std::alloc::Global;
 use std::test::Fail;
 
+// A sample: its location ids, its values, and its labels as key, text, number and unit.
+type SampleRow<'a> = (&'a [u64], &'a [i64], &'a [[i64; 4]]);
+
 // A location: its id, and its lines as function and line.
 type LocationRow<'a> = (u64, &'a [(u64, i64)]);
 
@@ -15,10 +18,7 @@ type LocationRow<'a> = (u64, &'a [(u64, i64)]);
 struct Case<'a> {
     shows: &'a str,
     types: &'a [(i64, i64)],
-    /// The location ids, the values and the labels of each sample, a label as key, text, number and unit.
-    ids: &'a [&'a [u64]],
-    values: &'a [&'a [i64]],
-    labels: &'a [&'a [[i64; 4]]],
+    samples: &'a [SampleRow<'a>],
     locations: &'a [LocationRow<'a>],
     /// The id of each function, then name, system name, filename and start line.
     functions: &'a [(u64, [i64; 4])],
@@ -82,9 +82,9 @@ fn functions(alloc: Global, rows: &[(u64, [i64; 4])]) -> Result<Functions, Memor
     Ok(functions)
 }
 
-fn samples(alloc: Global, case: &Case) -> Result<Samples, Memory> {
+fn samples(alloc: Global, all: &[SampleRow]) -> Result<Samples, Memory> {
     let mut samples = Sequence::new(alloc);
-    for ((ids, values), rows) in case.ids.iter().zip(case.values).zip(case.labels) {
+    for (ids, values, rows) in all {
         samples.push(Sample {
             location_ids: Sequence::from_slice(alloc, ids)?,
             values: Sequence::from_slice(alloc, values)?,
@@ -119,7 +119,7 @@ fn profile(alloc: Global, case: &Case) -> Result<Profile, Memory> {
         functions: functions(alloc, case.functions)?,
         strings: strings(alloc, case.strings)?,
         locations: locations(alloc, case.locations)?,
-        samples: samples(alloc, case)?,
+        samples: samples(alloc, case.samples)?,
         period_type: case.period_type.map(kind),
         period: case.period,
         duration: case.duration,
@@ -135,9 +135,7 @@ const CASES: [Case<'static>; 4] = [
     Case {
         shows: "nothing is no byte",
         types: &[],
-        ids: &[],
-        values: &[],
-        labels: &[],
+        samples: &[],
         locations: &[],
         functions: &[],
         strings: &[],
@@ -149,9 +147,7 @@ const CASES: [Case<'static>; 4] = [
     Case {
         shows: "empty messages and texts are written",
         types: &[(0, 0)],
-        ids: &[&[]],
-        values: &[&[]],
-        labels: &[&[]],
+        samples: &[(&[], &[], &[])],
         locations: &[(0, &[])],
         functions: &[],
         strings: &["a", "", "b"],
@@ -169,9 +165,11 @@ const CASES: [Case<'static>; 4] = [
     Case {
         shows: "large and negative numbers, labels with a text and with a number",
         types: &[],
-        ids: &[&[127, 128, u64::MAX]],
-        values: &[&[-1, 0]],
-        labels: &[&[[3, 4, 0, 0], [3, 0, 300, 5]]],
+        samples: &[(
+            &[127, 128, u64::MAX],
+            &[-1, 0],
+            &[[3, 4, 0, 0], [3, 0, 300, 5]],
+        )],
         locations: &[],
         functions: &[],
         strings: &[],
@@ -189,20 +187,22 @@ const CASES: [Case<'static>; 4] = [
     Case {
         shows: "more than four of everything",
         types: &[(1, 2), (3, 4), (5, 6), (7, 8), (9, 10)],
-        ids: &[&[1, 2, 3, 4, 5, 6], &[1], &[2], &[3], &[4]],
-        values: &[&[10, 20, 30, 40, 50, 60], &[0], &[1], &[2], &[3]],
-        labels: &[
-            &[
-                [1, 2, 0, 0],
-                [3, 4, 0, 0],
-                [5, 6, 0, 0],
-                [7, 8, 0, 0],
-                [9, 10, 0, 0],
-            ],
-            &[],
-            &[],
-            &[],
-            &[],
+        samples: &[
+            (
+                &[1, 2, 3, 4, 5, 6],
+                &[10, 20, 30, 40, 50, 60],
+                &[
+                    [1, 2, 0, 0],
+                    [3, 4, 0, 0],
+                    [5, 6, 0, 0],
+                    [7, 8, 0, 0],
+                    [9, 10, 0, 0],
+                ],
+            ),
+            (&[1], &[0], &[]),
+            (&[2], &[1], &[]),
+            (&[3], &[2], &[]),
+            (&[4], &[3], &[]),
         ],
         locations: &[
             (1, &[(1, 1), (2, 2), (3, 3), (4, 4), (5, 5)]),
