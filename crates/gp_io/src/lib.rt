@@ -31,6 +31,3 @@ pub use source::{Failed, Source};
 pub use store::Store;
 pub use system::{FileSource, FolderStore, StandardOutput};
 pub use whole::{ReadError, read_all};
-
-#[cfg(test)]
-mod tests;

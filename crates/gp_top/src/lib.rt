@@ -18,6 +18,3 @@ mod top;
 
 pub use report::Report;
 pub use top::{Outcome, plain_top};
-
-#[cfg(test)]
-mod tests;
