@@ -112,7 +112,7 @@ const CASES: [Case<'static>; 11] = [
     ),
 ];
 
-fn program_of<A: Abort>(rt: &A, alloc: Global, text: &str) -> Result<Program, Memory> {
+pub(crate) fn program_of<A: Abort>(rt: &A, alloc: Global, text: &str) -> Result<Program, Memory> {
     assert!(rt; text.len() < 65536);
     match read(alloc, text.as_bytes()) {
         Ok(program) => Ok(program),
@@ -121,7 +121,7 @@ fn program_of<A: Abort>(rt: &A, alloc: Global, text: &str) -> Result<Program, Me
     }
 }
 
-fn settings_of<A: Abort>(rt: &A, alloc: Global, words: &str) -> Result<Settings, Memory>
+pub(crate) fn settings_of<A: Abort>(rt: &A, alloc: Global, words: &str) -> Result<Settings, Memory>
     ensures { IfOk result AreInRange }
 {
     let mut all = Vec::new(alloc);
@@ -159,7 +159,7 @@ fn entry_told(alloc: Global, made: &Entry) -> Result<String, Memory> {
     Ok(text)
 }
 
-fn journal_told(alloc: Global, journal: &[Entry]) -> Result<String, Memory> {
+pub(crate) fn journal_told(alloc: Global, journal: &[Entry]) -> Result<String, Memory> {
     let mut text = String::new(alloc);
     for made in journal {
         if !text.is_empty() {
