@@ -9,7 +9,7 @@ ghost use Rattle.gp_sim.specs.kept.Simulation.{next_turn, TakesTurn};
 
 use crate::actions::actions;
 use crate::bodies::{Bodies, newborn};
-use crate::numbers::choose;
+use crate::numbers::Numbers;
 use crate::simulation::Simulation;
 use gp_history::{History, HistoryParts};
 use gp_isa::{Memory, Program};
@@ -44,7 +44,7 @@ impl<R: Run> Simulation<R> {
         Ok(Simulation {
             history: History::new(alloc, program, settings)?,
             bodies,
-            taken: 0,
+            numbers: Numbers::new(settings),
         })
     }
 
@@ -69,10 +69,10 @@ impl<R: Run> Simulation<R> {
             settings,
             actions_to,
         )?;
-        match choose(settings, self.taken, actions_to.as_slice()) {
+        match self.numbers.choose(actions_to.as_slice()) {
             Some(turn) => {
                 self.make(alloc, program, settings, turn.entry)?;
-                self.taken = turn.taken;
+                self.numbers.take(settings, turn.taken);
                 Ok(true)
             }
             None => Ok(false),

@@ -1,4 +1,5 @@
 use crate::bodies::Bodies;
+use crate::numbers::Numbers;
 use gp_history::History;
 use gp_machine::Run;
 use std::marker::Model;
@@ -8,8 +9,7 @@ use std::marker::Model;
 pub(crate) struct Simulation<R: Run> {
     pub(crate) history: History<R>,
     pub(crate) bodies: Bodies<R>,
-    // how many numbers were taken
-    pub(crate) taken: usize,
+    pub(crate) numbers: Numbers<R>,
 }
 
 impl<R: Run> Model for Simulation<R> {
@@ -18,7 +18,7 @@ impl<R: Run> Model for Simulation<R> {
 
     ghost Value = { SoFar };
 
-    ghost view = { λ s. record { journal = s.history; taken = s.taken } };
+    ghost view = { λ s. record { journal = s.history; taken = s.numbers } };
 
     ghost invariant = { λ s. IsSimulation (code_of R.program) R.settings s.history s.bodies };
 }
