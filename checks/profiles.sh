@@ -173,6 +173,23 @@ mkdir goroutine.1.pb
 run 4 '' sim a.gp --at 0
 rmdir goroutine.1.pb
 
+# A profile that can't be put, since the device is full. What stood under its name stays, and nothing else is left.
+on_full_device() {
+  mount -t tmpfs -o size=64k gp full 2>/dev/null || return 125
+  cp -- a.gp full/ && cd -- full && echo old >goroutine.1.pb || return 125
+  dd if=/dev/zero of=rest bs=4096 2>/dev/null
+  "$1" sim a.gp --at 0
+  echo "$?" $(LC_ALL=C ls -A) $(cat goroutine.1.pb)
+}
+mkdir full
+said=$(export -f on_full_device && unshare -m bash -c 'on_full_device "$1"' check "$gp" 2>&1)
+if [ $? != 0 ]; then
+  echo "skipped: no full device (it wants a mount namespace, and so root)"
+else
+  [ "$said" = '4 a.gp goroutine.1.pb rest old' ] || fail "on a full device: '$said' in place of '4 a.gp goroutine.1.pb rest old'"
+fi
+rmdir full
+
 # A run that ends by a fault (a free mutex is unlocked), and one that ends with a full journal.
 printf 'mutex m\nfunc main {\nwork 3\nunlock m\n}\n' >unlocked.gp
 run 5 goroutine.1.pb sim unlocked.gp --workers 1 --at end
@@ -180,6 +197,16 @@ samples goroutine.1.pb '1 main@unlocked.gp:4'
 printf 'func main {\nwork 20000\n}\n' >long.gp
 run 8 goroutine.1.pb sim long.gp --workers 1 --entries 16 --at end
 samples goroutine.1.pb '1 main@long.gp:2'
+
+# A profile above 64 KiB: 2,000 goroutines, of which no two stand at one stack.
+if command -v python3 >/dev/null; then
+  python3 "$top/bench/programs.py" blocked 2000 distinct >distinct.gp 2>/dev/null || fail "no program of 2,000 goroutines"
+  run 6 goroutine.1.pb sim distinct.gp --workers 1 --cells 2000 --entries 4194304 --at end
+  [ "$(wc -c <goroutine.1.pb)" -gt 65536 ] || fail "the profile of 2,000 stacks has at most 64 KiB"
+  [ "$has_go" = no ] || [ "$(shown goroutine.1.pb | sort -u | wc -l)" = 2000 ] || fail "pprof shows other than 2,000 stacks"
+else
+  echo "skipped: no large profile (no python3)"
+fi
 
 # Every example, by the paths that the README shows. FILE stands in the profile as it was written.
 ln -s -- "$top/examples" examples
