@@ -6,11 +6,8 @@ ghost use Rattle.gp_journal.specs.Bodies.{AreBodiesOf};
 ghost use Rattle.gp_sim.specs.Choice.{idle_action, worker_action, answers, profiler_action, actions};
 
 use crate::bodies::Bodies;
-use gp_isa::{Memory, Program};
+use gp_isa::{Memory, Program, limits};
 use gp_machine::{Entry, Machine, Run, Settings};
-
-/// The quantum: no Run passes more instructions, so a look ahead goes no further.
-const QUANTUM: u64 = 1000;
 
 // What idle worker w would do.
 fn idle_action<R: Run>(machine: &Machine<R>, w: u32) -> Option<Entry>
@@ -43,7 +40,7 @@ fn worker_action<R: Run>(
 {
     let _ = machine.journal();
     match machine.runs(w) {
-        Some(g) => Some(machine.due(w, bodies.peek(program, g, QUANTUM))),
+        Some(g) => Some(machine.due(w, bodies.peek(program, g, limits::QUANTUM))),
         None => idle_action(machine, w),
     }
 }
