@@ -1,53 +1,92 @@
 #!/usr/bin/env bash
 # gate.sh [NAME..]: what the gate costs from nothing, item by item, worst first. It prints a table and asserts nothing.
 #
-# An item is a crate's proof together with its tests, or its must-fail edits. Each is run once, lowest crate first, by
-# `rt ci NAME` on a copy of the sources, over what the items before it left; nothing that earlier runs on this machine kept is
-# used, since a folder of its own stands in the place of the kit's store (in a mount namespace, which wants root). Minutes are
-# those of processors, user and system, as the system counts them, so that other work on the machine makes little
-# difference. With names, the crates named and those below them are measured. It takes as long as the gate and more.
+# An item is a crate's proof, the proof of its tests, or its must-fail edits. `rt ci --anew` is run once on a copy of the
+# sources, so nothing that earlier runs on this machine kept is used, and once a second it is looked at what each of its
+# processes has used. Minutes are those of processors, user and system, as the system counts them, so that other work on the
+# machine makes little difference; what a process uses in its last second is lost. With names, the crates named and those
+# below them are measured. It takes as long as the gate.
 set -u
 export LC_ALL=C
 top=$(cd -P -- "$(dirname -- "${BASH_SOURCE[0]}")/.." && pwd)
-kit=$(dirname -- "$(dirname -- "$(readlink -f -- "$(command -v rt)")")") || exit 1
-store=$(dirname -- "$kit")/rattle-kept
-if [ "$(id -u)" != 0 ] || ! unshare -m true 2>/dev/null; then
-  echo "gate.sh: needs root, for a mount namespace of its own" >&2
-  exit 1
-fi
 room=$(mktemp -d) || exit 1
 trap 'rm -rf -- "$room"' EXIT
-mkdir -- "$room/store" "$room/repo" || exit 1
-mkdir -p -- "$store" || exit 1
+mkdir -- "$room/repo" "$room/repo/.git" || exit 1
 tar cf "$room/sources.tar" -C "$top" --exclude=out crates crates.txt HANDLES || exit 1
-tar xf "$room/sources.tar" -C "$room/repo" && rm -f -- "$room/sources.tar" && git init -q -- "$room/repo" || exit 1
+tar xf "$room/sources.tar" -C "$room/repo" && rm -f -- "$room/sources.tar" || exit 1
 
-unshare -m bash -c 'mount --bind "$1" "$2" && shift 2 && exec "$@"' gate "$room/store" "$store" \
-  python3 - "$room/repo" "$@" <<'PROGRAM'
-import os, re, resource, shutil, subprocess, sys, time
+python3 - "$room/repo" "$@" <<'PROGRAM'
+import os, re, subprocess, sys, time
 
 repo, names = sys.argv[1], sys.argv[2:]
+TICKS = os.sysconf("SC_CLK_TCK") * 60
 
 
-def crates():
-    """The crates in the order of crates.txt sorted by what they stand on, each with those that it stands on."""
-    deps = {}
-    for line in open(f"{repo}/crates.txt", encoding="utf-8"):
-        if not line.startswith("#") and ":" in line:
-            head, below = line.split(":", 1)
-            deps[head.split()[0]] = below.split()
-    order = []
-    def visit(name):
-        if name in deps and name not in order:
-            for one in deps[name]:
-                visit(one)
-            order.append(name)
-    for name in names or deps:
-        visit(name)
-    return order
+def stat(process):
+    """The parent of a process, the minutes that it has used, and when it began."""
+    with open(f"/proc/{process}/stat", encoding="utf-8", errors="replace") as it:
+        fields = it.read().rpartition(") ")[2].split()
+    return int(fields[1]), (int(fields[11]) + int(fields[12])) / TICKS, fields[19]
 
 
-def files(crate, *folders):
+def below(root):
+    """The processes below one, each with its parent, its minutes and its begin."""
+    found = {}
+    for name in os.listdir("/proc"):
+        if name.isdigit():
+            try:
+                found[int(name)] = stat(name)
+            except (OSError, IndexError, ValueError):
+                pass
+    inside, grows = {root}, True
+    while grows:
+        more = {process for process, (parent, _, _) in found.items() if parent in inside} - inside
+        inside |= more
+        grows = bool(more)
+    return {process: found[process] for process in inside if process in found}
+
+
+def item_of(process):
+    """The item for which a process of the prover works, by its words and its folder, or None."""
+    try:
+        with open(f"/proc/{process}/cmdline", encoding="utf-8", errors="replace") as it:
+            words = it.read().split("\0")
+        folder = os.readlink(f"/proc/{process}/cwd")
+    except OSError:
+        return None
+    if "--crate-name" not in words:
+        return None
+    crate = words[words.index("--crate-name") + 1]
+    return (crate, "edits") if "rt-edit-" in folder else (crate, "tests") if "--test" in words else (crate, "proof")
+
+
+run = subprocess.Popen(["rt", "ci", "--anew", *names], cwd=repo, stdout=subprocess.PIPE, stderr=subprocess.STDOUT, text=True, errors="replace")
+log = open(f"{repo}/../log", "w+", encoding="utf-8")
+os.set_blocking(run.stdout.fileno(), False)
+used, items = {}, {}
+while run.poll() is None:
+    log.write(run.stdout.read() or "")
+    now = below(run.pid)
+    for process, (parent, minutes, begin) in now.items():
+        key = process, begin
+        if key not in items:
+            item = item_of(process)
+            while item is None and parent in now:
+                item = items.get((parent, now[parent][2])) or item_of(parent)
+                parent = now[parent][0]
+            items[key] = item or ("rt itself", "")
+        used[key] = minutes
+    time.sleep(1)
+log.write(run.stdout.read() or "")
+log.seek(0)
+said = log.read().strip().splitlines()
+
+totals = {}
+for key, minutes in used.items():
+    totals[items[key]] = totals.get(items[key], 0) + minutes
+
+
+def text(crate, *folders):
     for folder in folders:
         for at, _, found in os.walk(f"{repo}/crates/{crate}/{folder}"):
             for name in found:
@@ -56,43 +95,16 @@ def files(crate, *folders):
                         yield it.read()
 
 
-def processor_minutes(command):
-    before, begin = resource.getrusage(resource.RUSAGE_CHILDREN), time.monotonic()
-    done = subprocess.run(command, cwd=repo, stdout=subprocess.PIPE, stderr=subprocess.STDOUT, text=True, errors="replace")
-    after, end = resource.getrusage(resource.RUSAGE_CHILDREN), time.monotonic()
-    spent = after.ru_utime + after.ru_stime - before.ru_utime - before.ru_stime
-    lines = done.stdout.strip().splitlines()
-    if done.returncode:
-        print("\n".join(lines[-15:]), file=sys.stderr)
-    return spent / 60, (end - begin) / 60, lines[-1] if lines else ""
-
-
-def item(what, crate, count, lines):
-    minutes, wall, said = processor_minutes(["rt", "ci", crate])
-    rows.append((minutes, what, count, lines))
-    print(f"  {what}: {minutes:.1f} processor-minutes in {wall:.1f}; {said}", file=sys.stderr)
-
-
-rows, order = [], crates()
-aside = {}
-for crate in order:
-    edits = f"{repo}/crates/{crate}/must-fail"
-    if os.path.isdir(edits):
-        aside[crate] = f"{repo}-{crate}-must-fail"
-        shutil.move(edits, aside[crate])
-for crate in order:
-    sources = list(files(crate, "src"))
-    functions = sum(len(re.findall(r"^\s*(?:pub(?:\([a-z]+\))? )?(?:const )?fn ", it, re.M)) for it in sources)
-    lines = sum(it.count("\n") for it in [*sources, *files(crate, "specs", "proofs")])
-    item(crate, crate, f"{functions} functions", lines)
-for crate in order:
-    if crate in aside:
-        edits = f"{repo}/crates/{crate}/must-fail"
-        shutil.move(aside[crate], edits)
-        item(f"{crate}, edits", crate, f"{len(os.listdir(edits))} edits", 0)
-
-print(f"{'item':28} {'minutes':>8}  {'':14} {'lines':>7}")
-for minutes, what, count, lines in sorted(rows, reverse=True):
-    print(f"{what:28} {minutes:8.1f}  {count:14} {lines or '':>7}")
-print(f"{'all':28} {sum(row[0] for row in rows):8.1f}  {'':14} {sum(row[3] for row in rows):>7}")
+print(f"{'minutes':>8}  {'item':32} {'functions':>9} {'lines':>7} {'edits':>6}")
+for (crate, kind), minutes in sorted(totals.items(), key=lambda it: -it[1]):
+    functions = lines = edits = ""
+    if kind == "edits":
+        edits = len([it for it in os.listdir(f"{repo}/crates/{crate}/must-fail") if it.endswith(".edit")])
+    elif kind:
+        functions = sum(len(re.findall(r"^\s*(?:pub(?:\([a-z]+\))? )?(?:const )?fn ", it, re.M)) for it in text(crate, "src"))
+        lines = sum(it.count("\n") for it in text(crate, "src", "specs", "proofs"))
+    print(f"{minutes:8.1f}  {crate + ' ' + kind:32} {functions:>9} {lines:>7} {edits:>6}")
+print(f"{sum(totals.values()):8.1f}  all")
+print(said[-1] if said else "rt ci said nothing")
+sys.exit(run.returncode)
 PROGRAM
