@@ -60,12 +60,10 @@ def item_of(process):
     return (crate, "edits") if "rt-edit-" in folder else (crate, "tests") if "--test" in words else (crate, "proof")
 
 
-run = subprocess.Popen(["rt", "ci", "--anew", *names], cwd=repo, stdout=subprocess.PIPE, stderr=subprocess.STDOUT, text=True, errors="replace")
-log = open(f"{repo}/../log", "w+", encoding="utf-8")
-os.set_blocking(run.stdout.fileno(), False)
+log = open(f"{repo}/../log", "w+", encoding="utf-8", errors="replace")
+run = subprocess.Popen(["rt", "ci", "--anew", *names], cwd=repo, stdout=log, stderr=subprocess.STDOUT)
 used, items = {}, {}
 while run.poll() is None:
-    log.write(run.stdout.read() or "")
     now = below(run.pid)
     for process, (parent, minutes, begin) in now.items():
         key = process, begin
@@ -77,7 +75,6 @@ while run.poll() is None:
             items[key] = item or ("rt itself", "")
         used[key] = minutes
     time.sleep(1)
-log.write(run.stdout.read() or "")
 log.seek(0)
 said = log.read().strip().splitlines()
 
