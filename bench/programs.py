@@ -1,14 +1,20 @@
 """Writes the program files that sim.sh times.
 
     programs.py mixed GOROUTINES          workers of calls, work, channels and mutexes
+    programs.py shared GOROUTINES         workers of channels and mutexes alone
+    programs.py twice CALLS               `work 1` behind so many calls, the outermost functions calling twice
+    programs.py row STATEMENTS            one function of so many statements `work 1`
+    programs.py climb CALLS               a number sent and received behind so many calls, again and again
+    programs.py wide KIBIBYTES            256 functions that each call the next one, in a file of so many kibibytes
     programs.py blocked GOROUTINES KIND   goroutines that all wait at last, with one stack (KIND is `same`) or as many
                                           stacks as goroutines (`distinct`)
     programs.py largest FRAMES            16,384 goroutines, with stacks of up to FRAMES frames, that fill the largest
                                           journal
 
 The program goes to standard output. To standard error goes one line with its numbers: for `mixed` the operations (shared
-points and statements of work passed) and the instructions of a whole run, for `blocked` the goroutines and the distinct
-stacks among them, for `largest` the goroutines and the frames of each stack.
+points and statements of work passed) and the instructions of a whole run, for `shared` the shared points, for `blocked` the
+goroutines and the distinct stacks among them, for `largest` the goroutines and the frames of each stack, for the others
+the statements of the file.
 """
 
 import sys
@@ -49,6 +55,54 @@ def mixed(goroutines):
     operations = goroutines * (ROUNDS * len(ROUND) + 3)
     steps = goroutines * (ROUNDS * sum(map(instructions, ROUND)) + 3)
     return lines, f"{operations} {steps}"
+
+
+def shared(goroutines):
+    """The workers of `mixed` without work and without calls between their points."""
+    lines = [f"chan done {goroutines}"]
+    lines += [f"chan c{c} 8" for c in range(CLASSES)]
+    lines += [f"mutex m{c}" for c in range(CLASSES)]
+    lines += function("main", [f"spawn worker{j % CLASSES}" for j in range(goroutines)] + ["recv done"] * goroutines)
+    for c in range(CLASSES):
+        points = [f"lock m{c}", f"unlock m{c}", f"send c{c}", f"recv c{c}"]
+        lines += function(f"worker{c}", points * ROUNDS + ["send done"])
+    return lines, f"{goroutines * (4 * ROUNDS + 3)}"
+
+
+def twice(calls):
+    """Work behind so many calls that each point is far from the next one, and no shared point in 2^39 of them."""
+    lines = function("main", [f"call f{calls - 1}"])
+    for i in range(calls - 1, 0, -1):
+        # (no trace has more than 2^40 points: only the outermost functions call twice)
+        lines += function(f"f{i}", [f"call f{i - 1}"] * (2 if i > calls - 38 else 1))
+    lines += function("f0", ["work 1"])
+    return lines, f"{len(lines) - 2 * (calls + 1)}"
+
+
+def row(statements):
+    """The longest straight way that a file has: each slice ends within it."""
+    return function("main", ["work 1"] * statements), f"{statements}"
+
+
+def climb(calls):
+    """Each point is reached by calls that are entered and left again."""
+    lines = ["chan c 1"]
+    lines += function("main", [f"call f{calls - 1}"] * 4096)
+    for i in range(calls - 1, 0, -1):
+        lines += function(f"f{i}", [f"call f{i - 1}"])
+    lines += function("f0", ["send c", "recv c"])
+    return lines, f"{4096 + calls}"
+
+
+def wide(kibibytes):
+    """Functions that call the next one, the callers first: a judgement of recursion and sizes that goes by rounds is slow."""
+    count = 256
+    statements = kibibytes * 1024 // count // 7
+    lines = []
+    for i in range(count):
+        body = [f"call f{i + 1}" if i < count - 1 else "work 1"] + ["work 1"] * (statements - 1)
+        lines += function(f"f{i}" if i else "main", body)
+    return lines, f"{count * statements}"
 
 
 def chain(count, last):
@@ -106,6 +160,8 @@ def main():
     kind, number = sys.argv[1], int(sys.argv[2])
     if kind == "mixed":
         lines, numbers = mixed(number)
+    elif kind in ("shared", "twice", "row", "climb", "wide"):
+        lines, numbers = {"shared": shared, "twice": twice, "row": row, "climb": climb, "wide": wide}[kind](number)
     elif kind == "blocked":
         lines, numbers = (same if sys.argv[3] == "same" else distinct)(number)
     else:

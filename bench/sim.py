@@ -1,0 +1,152 @@
+"""Times simulated runs: sim.py GP PROGRAMS ROUNDS [BESIDE], in an empty folder; sim.sh calls it.
+
+Times are processor time, user and system, the least of ROUNDS rounds in which gp and Go take turns, so that a machine that is
+slow for a while is slow for both. `MiB` is the largest peak of memory. `growth` is the exponent of the time by the
+quantity that doubles, over the upper half of the rows: 1 is linear. An entry is one of the journal; how many a run makes is
+found by halving, since a journal that is too short ends with a status of its own.
+"""
+
+import math
+import os
+import subprocess
+import sys
+
+gp, programs, rounds, beside = sys.argv[1], sys.argv[2], int(sys.argv[3]), sys.argv[4:]
+FULL, LEAST, MOST = 8, 16, 4_194_304
+
+
+def program(name, *words):
+    """Writes a program, and returns its numbers."""
+    with open(name, "w", encoding="utf-8") as to:
+        said = subprocess.run([sys.executable, programs, *map(str, words)], stdout=to, stderr=subprocess.PIPE, check=True)
+    return [int(it) for it in said.stderr.split()]
+
+
+def once(words, environment=None):
+    """Runs a command: its processor time in seconds, its peak memory in MiB, its status, and what it prints."""
+    with open("said", "w+", encoding="utf-8") as said:
+        process = subprocess.Popen(words, stdin=subprocess.DEVNULL, stdout=said, stderr=said, env={**os.environ, **(environment or {})})
+        _, status, usage = os.wait4(process.pid, 0)
+        process.returncode = os.waitstatus_to_exitcode(status)
+        said.seek(0)
+        return usage.ru_utime + usage.ru_stime, usage.ru_maxrss / 1024, process.returncode, said.read()
+
+
+def sim(*options):
+    return [gp, "sim", *map(str, options)]
+
+
+def measure(commands, status=0, go=None, told=False):
+    """Least processor times and largest memory of each of these commands, and the least time of Go, taken in turns."""
+    found = [[math.inf, 0.0] for _ in commands]
+    of_go = math.inf
+    for _ in range(rounds):
+        for at, words in enumerate(commands):
+            took, memory, ended, said = once(words)
+            if ended != status:
+                print(f"  {' '.join(words[1:])}: status {ended} in place of {status} {said}")
+            found[at] = [min(found[at][0], took), max(found[at][1], memory)]
+        if go and beside:
+            took, _, _, said = once([beside[0], *map(str, go)], {"GOMAXPROCS": "1"})
+            of_go = min(of_go, float(said) if told else took)
+    return found, of_go
+
+
+def entries(name, *options):
+    """How many entries a run makes, or the most where the journal gets full."""
+    low, high = LEAST - 1, MOST
+    if once(sim(name, *options, "--entries", MOST))[2] == FULL:
+        return MOST
+    while high - low > 1:
+        middle = (low + high) // 2
+        if once(sim(name, *options, "--entries", middle))[2] == FULL:
+            low = middle
+        else:
+            high = middle
+    return high
+
+
+def growth(rows):
+    """The exponent of the second number by the first one, over the upper half of the rows."""
+    rows = [(math.log(n), math.log(it)) for n, it in rows[len(rows) // 2 :] if it > 0]
+    if len(rows) < 2:
+        return math.nan
+    x, y = (sum(it) / len(rows) for it in zip(*rows))
+    return sum((n - x) * (it - y) for n, it in rows) / sum((n - x) ** 2 for n, _ in rows)
+
+
+def head(*columns):
+    print("".join(f"{it:>14}" for it in columns))
+
+
+def row(*columns):
+    told = (it if isinstance(it, str) else f"{it:.0f}" if isinstance(it, int) else "-" if not math.isfinite(it) else f"{it:.3g}" for it in columns)
+    print("".join(f"{it:>14}" for it in told), flush=True)
+
+
+print(f"processors {os.cpu_count()}, load {os.getloadavg()[0]:.1f}, rounds {rounds}")
+with open("smallest.gp", "w", encoding="utf-8") as to:
+    to.write("func main {\nwork 1\n}\n")
+(found,), _ = measure([sim("smallest.gp", "--at", 0)])
+print(f"the smallest run: {found[0] * 1000:.1f} ms, {found[1]:.1f} MiB")
+
+for kind, title in (
+    ("shared", "Workers of channels and mutexes alone. An operation is a shared point that was passed."),
+    ("mixed", "Workers of calls, work, channels and mutexes, with one profile. An operation is a shared point or a work passed."),
+):
+    print(f"\n{title}")
+    head("workers", "goroutines", "entries", "ns/entry", "ns/operation", "Go", "ratio", "MiB")
+    for workers in (1, 4, 16):
+        rows = []
+        for n in (4, 8, 16, 32, 64, 128, 256):
+            operations = program("it.gp", kind, n)[0]
+            options = ["--workers", workers, *(["--at", "1000"] if kind == "mixed" else [])]
+            ((took, memory),), of_go = measure([sim("it.gp", *options, "--entries", MOST)], go=(kind, n))
+            rows.append((n, took))
+            if n == 256:
+                made = entries("it.gp", *options)
+                each = took / operations
+                row(workers, n, made, took / made * 1e9, each * 1e9, of_go / operations * 1e9, each * operations / of_go, memory)
+        print(f"{'':>14}growth with goroutines {growth(rows):.2f}")
+
+print("\nFiles that make an entry dear. (`climb`: a call is one that is entered and left.)")
+head("file", "size", "workers", "entries", "ns/entry", "ns/call", "MiB")
+for kind, size in (("twice", 30), ("twice", 250), ("row", 1_000), ("row", 149_000), ("climb", 2), ("climb", 32), ("climb", 250)):
+    program("it.gp", kind, size)
+    made = entries("it.gp", "--workers", 1) if kind != "twice" else 4096
+    options = ["--workers", 1, "--entries", made]
+    ((took, memory),), _ = measure([sim("it.gp", *options)], status=FULL if kind == "twice" else 0)
+    row(kind, size, 1, made, took / made * 1e9, took / (4096 * size) * 1e9 if kind == "climb" else math.nan, memory)
+
+print("\nReading and judging a file: 256 functions that each call the next one, the callers first; and one function of as many bytes.")
+head("KiB", "wide, ms", "row, ms", "MiB")
+rows = []
+for kibibytes in (128, 256, 512, 1000):
+    program("wide.gp", "wide", kibibytes)
+    program("row.gp", "row", kibibytes * 1024 // 7 - 4)
+    (wide, flat), _ = measure([sim("wide.gp", "--entries", LEAST), sim("row.gp", "--entries", LEAST)], status=FULL)
+    rows.append((kibibytes, wide[0]))
+    row(kibibytes, wide[0] * 1000, flat[0] * 1000, wide[1])
+print(f"{'':>14}growth with bytes {growth(rows):.2f}")
+
+print("\nGoroutine profiles of goroutines that all wait, 32 frames each: the time of a run with eight, less that of one without, by eight.")
+head("stacks", "goroutines", "us/goroutine", "Go", "ratio", "MiB")
+for kind in ("same", "distinct"):
+    rows = []
+    for n in (1024, 2048, 4096, 8192, 16384):
+        _, stacks = program("it.gp", "blocked", n, kind)
+        options = ["it.gp", "--workers", 1, "--cells", 16384, "--room", 16384, "--entries", MOST]
+        (plain, profiled), of_go = measure([sim(*options), sim(*options, *["--at", "end"] * 8)], status=6, go=("blocked", n, kind), told=True)
+        took = (profiled[0] - plain[0]) / 8
+        rows.append((n, took))
+        row(stacks, n, took / n * 1e6, of_go / n * 1e6, took / of_go, profiled[1])
+    print(f"{'':>14}growth with goroutines {growth(rows):.2f}")
+
+print("\nThe largest settings: 16 workers, 16,384 goroutines, a full journal, eight profiles of all of them.")
+head("frames", "entries", "ns/entry", "MiB")
+for frames in (2, 256):
+    program("it.gp", "largest", frames)
+    times = [20_000, *range(500_000, 3_500_000, 500_000)]
+    options = ["--workers", 16, "--cells", 16384, "--room", 16384, "--entries", MOST]
+    ((took, memory),), _ = measure([sim("it.gp", *options, *(word for at in times for word in ("--at", at)), "--at", "end")], status=FULL)
+    row(frames, MOST, took / MOST * 1e9, memory)
