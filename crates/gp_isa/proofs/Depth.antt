@@ -10,11 +10,11 @@ use Rattle.gp_isa.specs.declared.parts.Parts.{Parts}
 use Rattle.gp_isa.specs.declared.statement.Stmt.{Stmt}
 use Rattle.gp_isa.specs.declared.statement.What.TheOpen.{Work, Call, Loop, Send, Recv, Lock, Unlock, Spawn, Labels}
 use Rattle.gp_isa.specs.Statement.{Action, action_of, line_of, most_bodies}
-use Rattle.gp_isa.specs.Trace.{Point, called_at, repeated, points_at, points_of_body, body_of, trace_within, trace}
+use Rattle.gp_isa.specs.Trace.{Point, called_at, repeated, points_at, points_of_body, body_of, points_of, trace_within, trace}
 use Rattle.gp_isa.specs.Calls.{calls_of, calls_in, callees, reaches, is_recursive, first_from, first_recursive, TracesAreWhole, TracesFollowCalls}
 
 -- a number stands in a list
-abbrev In : ℕ → List ℕ → Type 0
+abbrev pub In : ℕ → List ℕ → Type 0
 In h xs = list_any (λ g. h == g) xs ≡ true
 
 in_front : (h : ℕ) (xs ys : List ℕ) → In h xs → In h (xs ++ ys)
@@ -25,7 +25,7 @@ in_back h xs ys e = list_any-append (λ g. h == g) xs ys ∙ or_right _ _ e
 
 -- The points of statements hang on the points of the functions that they call, and on no other.
 module _ (calls calls' : ℕ → List Point) (f : ℕ) where
-  abbrev Agrees : List ℕ → Type 0
+  abbrev pub Agrees : List ℕ → Type 0
   Agrees called = (h : ℕ) → In h called → calls h ≡ calls' h
 
   module _ (inner inner' : List Stmt → List Point) (within : List Stmt → List ℕ) (same : (body : List Stmt) → Agrees (within body) → inner body ≡ inner' body) where
@@ -48,7 +48,7 @@ module _ (calls calls' : ℕ → List Point) (f : ℕ) where
         (same_action (line_of s) (action_of s) (λ h e. agrees h (in_front h (calls_of within (action_of s)) _ e)))
         (same_body body (λ h e. agrees h (in_back h (calls_of within (action_of s)) _ e)))
 
-  same_points : (deep : ℕ) (body : List Stmt) → Agrees (calls_in deep body) → points_of_body calls f deep body ≡ points_of_body calls' f deep body
+  pub same_points : (deep : ℕ) (body : List Stmt) → Agrees (calls_in deep body) → points_of_body calls f deep body ≡ points_of_body calls' f deep body
   same_points zero body agrees = refl
   same_points (suc deep) body agrees = same_body (points_of_body calls f deep) (points_of_body calls' f deep) (calls_in deep) (same_points deep) body agrees
 
@@ -209,3 +209,13 @@ traces_are_whole parts more f program = sym (deeper parts program.none_recursive
 pub traces_follow_calls : TracesFollowCalls
 unfolding trace trace_within
 traces_follow_calls parts f program = deeper parts program.none_recursive (suc (length parts.functions)) f (omega arith)
+
+-- So it is where no function can call itself, whatever else parts are.
+pub calls_followed : (parts : Parts) → first_recursive parts ≡ None → (f : ℕ) → trace parts f ≡ points_of parts (trace parts) f
+unfolding trace trace_within
+calls_followed parts none f = deeper parts none (suc (length parts.functions)) f (omega arith)
+
+-- a function that isn't there has no points
+pub no_trace : (parts : Parts) → first_recursive parts ≡ None → (f : ℕ) → length parts.functions ≤ f → trace parts f ≡ []
+unfolding trace
+no_trace parts none f past = no_points parts none (length parts.functions) f past

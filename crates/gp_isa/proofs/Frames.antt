@@ -1,10 +1,10 @@
 -- Each call followed deeper adds one frame at most.
-use Rattle.std.proofs.Common.{ℕ, zero, suc, ◌+◌, ◌≤◌, List, [], ◌∷◌, map, replicate, flat_map, arith}
+use Rattle.std.proofs.Common.{ℕ, zero, suc, ◌+◌, ◌≤◌, List, [], ◌∷◌, length, map, replicate, flat_map, arith}
 use Rattle.gp_isa.specs.declared.parts.Parts.{Parts}
 use Rattle.gp_isa.specs.declared.statement.Stmt.{Stmt}
 use Rattle.gp_isa.specs.declared.statement.What.TheOpen.{Work, Call, Loop, Send, Recv, Lock, Unlock, Spawn, Labels}
 use Rattle.gp_isa.specs.Statement.{Action, action_of, line_of, most_bodies}
-use Rattle.gp_isa.specs.Trace.{Point, Local, point_at, called_at, repeated, points_at, points_of_body, body_of, trace_within}
+use Rattle.gp_isa.specs.Trace.{Point, Local, point_at, called_at, repeated, points_at, points_of_body, body_of, trace_within, trace}
 use Rattle.gp_isa.specs.Size.{most_frames}
 use Rattle.gp_isa.proofs.Sizes.{most_frames-append, most_frames-called, most_frames-repeated, most_frames-work}
 
@@ -52,3 +52,7 @@ unfolding trace_within
 most_frames-trace_within parts zero f = nested_few (λ _. []) 0 (λ _. omega arith) f most_bodies (body_of parts f)
 most_frames-trace_within parts (suc depth) f =
     omega (arith, nested_few (trace_within parts depth) (depth + 1) (most_frames-trace_within parts depth) f most_bodies (body_of parts f))
+
+pub most_frames-trace : (parts : Parts) (f : ℕ) → most_frames (trace parts f) ≤ length parts.functions + 1
+unfolding trace
+most_frames-trace parts f = most_frames-trace_within parts (length parts.functions) f

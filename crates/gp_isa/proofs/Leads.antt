@@ -35,14 +35,14 @@ module _ (parts : Parts) where
   }
 
   -- one function more in front
-  leads_on : (k f g h : ℕ) → is_among g (callees parts f) ≡ true → g < k → LeadsBelow parts k g h → LeadsBelow parts k f h
+  pub leads_on : (k f g h : ℕ) → is_among g (callees parts f) ≡ true → g < k → LeadsBelow parts k g h → LeadsBelow parts k f h
   leads_on k f g h calls less leads = record {
     via = g ∷ leads.via;
     below = All-cons (λ j. j < k) g leads.via less leads.below;
     way = (calls, leads.way);
   }
 
-  leads_at_once : (k f h : ℕ) → is_among h (callees parts f) ≡ true → LeadsBelow parts k f h
+  pub leads_at_once : (k f h : ℕ) → is_among h (callees parts f) ≡ true → LeadsBelow parts k f h
   leads_at_once k f h calls = record { via = []; below = All-nil (λ j. j < k); way = calls }
 
   -- a way through functions up to k doesn't pass k, or it is cut there
@@ -207,7 +207,7 @@ module _ (parts : Parts) where
         let short = shorten h f leads.via leads.way leads.below in
         reached (length parts.functions) f h short.via short.way (length-le_from_distinct_below short.via (length parts.functions) short.distinct (among_below short.via short.below))
 
-    recursive_is : (rows : List (List Bool)) → AreLeads parts (length parts.functions) rows → (f : ℕ) → marked (get_or rows f []) f ≡ is_recursive parts f
+    pub recursive_is : (rows : List (List Bool)) → AreLeads parts (length parts.functions) rows → (f : ℕ) → marked (get_or rows f []) f ≡ is_recursive parts f
     recursive_is rows leads f = at (cases_Bool (is_recursive parts f))
       where
         at : (is_recursive parts f ≡ true) ⊎ (is_recursive parts f ≡ false) → marked (get_or rows f []) f ≡ is_recursive parts f

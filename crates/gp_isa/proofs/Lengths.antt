@@ -7,11 +7,11 @@ use Rattle.gp_isa.specs.declared.parts.Parts.{Parts}
 use Rattle.gp_isa.specs.declared.size.Size.{Size}
 use Rattle.gp_isa.specs.Calls.{first_from, first_too_long, IsProgram}
 use Rattle.gp_isa.specs.Trace.{trace}
-use Rattle.gp_isa.specs.kept.Sizes.{AreSizes}
+use Rattle.gp_isa.specs.kept.Sizes.{no_size, AreSizes}
 use Rattle.gp_isa.proofs.First.{first_from-same, each_fails}
 
 abbrev none : Size
-none = record { points = 0; frames = 0 }
+none = no_size
 
 same_test : (n m : ℕ) → n ≡ min m (most_points + 1) → nat_lt most_points n ≡ nat_lt most_points m
 same_test n m is = grind (arith, nat_tests)

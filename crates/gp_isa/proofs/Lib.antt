@@ -2,12 +2,14 @@ pub mod BareBodies
 pub mod Sizes
 pub mod Points
 pub mod Frames
+pub mod Bodies
 pub mod Tables
 pub mod Marks
 pub mod First
 pub mod Rows
 pub mod Named
 pub mod Leads
+pub mod Ranks
 pub mod Lengths
 pub mod Depth
 pub mod Examples

@@ -1,7 +1,8 @@
 -- In parts that lie in their limits, whoever is called is there.
-use Rattle.std.proofs.Common.{◌≡◌, ℕ, zero, suc, ◌+◌, ◌<◌, ◌≤◌, ◌⊎◌, Bool, List, [], ◌∷◌, ◌++◌, length, get_or, Some, None, flat_map, sym, ap, ◌∙◌, subst, inl, inr, arith}
+use Rattle.std.proofs.Common.{◌≡◌, ℕ, zero, suc, ◌+◌, ◌<◌, ◌≤◌, ◌⊎◌, Bool, true, ◌==◌, eqb-true, true≢false, List, [], ◌∷◌, ◌++◌, length, get_or, Some, None, flat_map, sym, ap, ◌∙◌, subst, inl, inr, arith}
 use Rattle.std.specs.List.{All, slice_get}
-use Rattle.std.proofs.lemmas.Bool.{cases_lt}
+use Rattle.std.proofs.lemmas.Bool.{cases_lt, or_cases}
+use Rattle.gp_isa.specs.Limits.{most_functions}
 use Rattle.std.proofs.lemmas.List.{get_or_append_left, get_or_past, get_or_push}
 use Rattle.std.proofs.lemmas.List.Elements.{All-nil, All-cons, All-head, All-tail, All-append}
 use Rattle.std.proofs.lemmas.Option.{slice_get_cases}
@@ -14,7 +15,7 @@ use Rattle.gp_isa.specs.Calls.{calls_of, calls_in, callees}
 use Rattle.gp_isa.specs.InLimits.{IsAction, AreStatements, AreInLimits}
 use Rattle.gp_isa.specs.Trace.{body_of}
 use Rattle.gp_isa.specs.kept.Ways.{is_among, marked, AreCalls}
-use Rattle.gp_isa.proofs.Tables.{body_of-within, body_of-past}
+use Rattle.gp_isa.proofs.Bodies.{body_of-within, body_of-past}
 
 module _ (parts : Parts) where
   abbrev pub IsThere : ℕ → Type 0
@@ -53,12 +54,24 @@ module _ (parts : Parts) where
       at (inr (past, found)) = subst (λ body. All IsThere (calls_in most_bodies body)) (sym (body_of-past parts f past)) (All-nil IsThere)
 
   pub row_fits : AreInLimits parts → (functions : List Function) (f : ℕ) (function : Function) (body : List Stmt) → functions ≡ parts.functions → f < length functions →
-      function ≡ get_or functions f function → body ≡ function.body → All (λ h. h < 256) (calls_in most_bodies body)
+      function ≡ get_or functions f function → body ≡ function.body → All (λ h. h < most_functions) (calls_in most_bodies body)
   row_fits limits functions f function body same within here is k d below =
       let its : body_of parts f ≡ body =
       body_of-within parts f function (subst (λ fs. f < length fs) same within) (subst (λ fs. function ≡ get_or fs f function) same here) ∙ sym is in
       let there : All IsThere (calls_in most_bodies body) = subst (λ b. All IsThere (calls_in most_bodies b)) its (callees_there limits f) in
       omega (arith, there k d below, limits.functions)
+
+-- whoever is called is there
+among : (P : ℕ → Type 0) (h : ℕ) (hs : List ℕ) → All P hs → is_among h hs ≡ true → P h
+among P h [] all none = absurd (true≢false (sym none))
+among P h (g ∷ hs) all one = at (or_cases (h == g) (is_among h hs) one) (among P h hs (All-tail P g hs all))
+  where
+    at : ((h == g) ≡ true) ⊎ (is_among h hs ≡ true) → (is_among h hs ≡ true → P h) → P h
+    at (inl here) rest = subst P (sym (eqb-true h g here)) (All-head P g hs all)
+    at (inr later) rest = rest later
+
+pub among_there : (parts : Parts) → AreInLimits parts → (f h : ℕ) → is_among h (callees parts f) ≡ true → h < length parts.functions
+among_there parts limits f h calls = among (λ g. g < length parts.functions) h (callees parts f) (callees_there parts limits f) calls
 
 -- one row more
 pub one_row_more : (test : ℕ → ℕ → Bool) (rows : List (List Bool)) (i : ℕ) (row : List Bool) → length rows ≡ i → ((h : ℕ) → marked row h ≡ test i h) →

@@ -1,5 +1,5 @@
 -- The points of a statement, by what it is.
-use Rattle.std.proofs.Common.{◌≡◌, ℕ, suc, ◌-◌, ◌+◌, ◌<◌, ◌⊎◌, List, [], ◌∷◌, ◌++◌, length, take, get_or, flat_map, sym, ap, ◌∙◌, inl, inr, arith}
+use Rattle.std.proofs.Common.{◌≡◌, ℕ, false, refl, suc, ◌-◌, ◌+◌, ◌<◌, ◌⊎◌, List, [], ◌∷◌, ◌++◌, length, take, get_or, flat_map, sym, ap, ◌∙◌, inl, inr, arith}
 use Rattle.std.proofs.lemmas.List.{take_more, flat_map_more}
 use Rattle.gp_isa.specs.declared.size.Size.{Size}
 use Rattle.gp_isa.specs.declared.statement.Stmt.{Stmt}
@@ -7,7 +7,8 @@ use Rattle.gp_isa.specs.declared.statement.What.{What}
 use Rattle.gp_isa.specs.declared.statement.What.TheVariants as what
 use Rattle.gp_isa.specs.Statement.{action, action_of, line_of}
 use Rattle.gp_isa.proofs.Actions.{action-loop, action-send, action-recv, action-lock, action-unlock, action-spawn, action-labels}
-use Rattle.gp_isa.specs.Trace.{Point, Instruction, Labels, Send, Recv, Lock, Unlock, Spawn, point_at, repeated, points_at, points_of_body}
+use Rattle.gp_isa.specs.Size.{is_work}
+use Rattle.gp_isa.specs.Trace.{Point, Instruction, Labels, Send, Recv, Lock, Unlock, Spawn, is_local, point_at, repeated, points_at, points_of_body}
 use Rattle.gp_isa.specs.kept.Sizes.{size_of}
 
 module _ (calls : ℕ → List Point) (f : ℕ) where
@@ -32,13 +33,15 @@ module _ (calls : ℕ → List Point) (f : ℕ) where
         points_at calls inner f line (action w) ≡ repeated n (inner body)
     points_at-loop w n body end is = ap (λ w. points_at calls inner f line (action w)) is ∙ ap (points_at calls inner f line) (action-loop n body end)
 
-    -- the other statements have one point
-    pub size_of-one : (w : What) (a : Size) → ((instruction : Instruction) → a ≡ size_of (point_at f line instruction ∷ [])) →
-        ((x : ℕ) × (w ≡ what.Send x)) ⊎ (((x : ℕ) × (w ≡ what.Recv x)) ⊎ (((x : ℕ) × (w ≡ what.Lock x)) ⊎ (((x : ℕ) × (w ≡ what.Unlock x)) ⊎ (((x : ℕ) × (w ≡ what.Spawn x)) ⊎ ((x : ℕ) × (w ≡ what.Labels x)))))) →
+    pub size_of-labels : (w : What) (a : Size) (set : ℕ) → a ≡ size_of (point_at f line (Labels set) ∷ []) → w ≡ what.Labels set → a ≡ size_of (points_at calls inner f line (action w))
+    size_of-labels w a set one is = one ∙ sym (ap (λ w. size_of (points_at calls inner f line (action w))) is ∙ ap (λ t. size_of (points_at calls inner f line t)) (action-labels set))
+
+    -- the others have one shared point
+    pub size_of-shared : (w : What) (a : Size) → ((instruction : Instruction) → is_local instruction ≡ false → is_work instruction ≡ false → a ≡ size_of (point_at f line instruction ∷ [])) →
+        ((x : ℕ) × (w ≡ what.Send x)) ⊎ (((x : ℕ) × (w ≡ what.Recv x)) ⊎ (((x : ℕ) × (w ≡ what.Lock x)) ⊎ (((x : ℕ) × (w ≡ what.Unlock x)) ⊎ ((x : ℕ) × (w ≡ what.Spawn x))))) →
         a ≡ size_of (points_at calls inner f line (action w))
-    size_of-one w a one (inl (x, is)) = one (Send x) ∙ sym (ap (λ w. size_of (points_at calls inner f line (action w))) is ∙ ap (λ t. size_of (points_at calls inner f line t)) (action-send x))
-    size_of-one w a one (inr (inl (x, is))) = one (Recv x) ∙ sym (ap (λ w. size_of (points_at calls inner f line (action w))) is ∙ ap (λ t. size_of (points_at calls inner f line t)) (action-recv x))
-    size_of-one w a one (inr (inr (inl (x, is)))) = one (Lock x) ∙ sym (ap (λ w. size_of (points_at calls inner f line (action w))) is ∙ ap (λ t. size_of (points_at calls inner f line t)) (action-lock x))
-    size_of-one w a one (inr (inr (inr (inl (x, is))))) = one (Unlock x) ∙ sym (ap (λ w. size_of (points_at calls inner f line (action w))) is ∙ ap (λ t. size_of (points_at calls inner f line t)) (action-unlock x))
-    size_of-one w a one (inr (inr (inr (inr (inl (x, is)))))) = one (Spawn x) ∙ sym (ap (λ w. size_of (points_at calls inner f line (action w))) is ∙ ap (λ t. size_of (points_at calls inner f line t)) (action-spawn x))
-    size_of-one w a one (inr (inr (inr (inr (inr (x, is)))))) = one (Labels x) ∙ sym (ap (λ w. size_of (points_at calls inner f line (action w))) is ∙ ap (λ t. size_of (points_at calls inner f line t)) (action-labels x))
+    size_of-shared w a one (inl (x, is)) = one (Send x) refl refl ∙ sym (ap (λ w. size_of (points_at calls inner f line (action w))) is ∙ ap (λ t. size_of (points_at calls inner f line t)) (action-send x))
+    size_of-shared w a one (inr (inl (x, is))) = one (Recv x) refl refl ∙ sym (ap (λ w. size_of (points_at calls inner f line (action w))) is ∙ ap (λ t. size_of (points_at calls inner f line t)) (action-recv x))
+    size_of-shared w a one (inr (inr (inl (x, is)))) = one (Lock x) refl refl ∙ sym (ap (λ w. size_of (points_at calls inner f line (action w))) is ∙ ap (λ t. size_of (points_at calls inner f line t)) (action-lock x))
+    size_of-shared w a one (inr (inr (inr (inl (x, is))))) = one (Unlock x) refl refl ∙ sym (ap (λ w. size_of (points_at calls inner f line (action w))) is ∙ ap (λ t. size_of (points_at calls inner f line t)) (action-unlock x))
+    size_of-shared w a one (inr (inr (inr (inr (x, is))))) = one (Spawn x) refl refl ∙ sym (ap (λ w. size_of (points_at calls inner f line (action w))) is ∙ ap (λ t. size_of (points_at calls inner f line t)) (action-spawn x))

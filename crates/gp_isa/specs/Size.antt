@@ -1,7 +1,7 @@
--- How many frames the stacks of traces have.
-use Rattle.std.specs.Prelude.{ℕ, zero, suc, max, List, [], ◌∷◌, length}
+-- How many frames the stacks of traces have, and whether all points of a trace are of one kind.
+use Rattle.std.specs.Prelude.{ℕ, zero, suc, Bool, true, false, ◌&&◌, max, List, [], ◌∷◌, length}
 use Rattle.gp_isa.specs.declared.parts.Parts.{Parts}
-use Rattle.gp_isa.specs.Trace.{Point, trace}
+use Rattle.gp_isa.specs.Trace.{Instruction, Local, Point, trace}
 
 -- the most frames of a stack of the points
 abbrev pub most_frames : List Point → ℕ
@@ -17,3 +17,13 @@ most_frames_below traces (suc n) = max (most_frames_below traces n) (most_frames
 -- main never reaches too.
 abbrev pub depth_of : Parts → ℕ
 depth_of parts = most_frames_below (trace parts) (length parts.functions)
+
+-- whether an instruction is one of work
+abbrev pub is_work : Instruction → Bool
+is_work Local = true
+is_work _ = false
+
+-- whether the instructions of all points pass a test
+abbrev pub all_pass : (Instruction → Bool) → List Point → Bool
+all_pass test [] = true
+all_pass test (point ∷ points) = test point.instruction && all_pass test points

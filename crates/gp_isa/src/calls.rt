@@ -1,8 +1,11 @@
 ghost use Rattle.std.specs.Prelude.{◌≡◌, ◌<◌, ◌-◌, ◌+◌, ◌≤◌, ℕ, suc, ◌||◌, List, [], length, All, IfOk, IfSome, slice_index_or};
+ghost use Rattle.gp_isa.specs.declared.parts.Parts.{Parts};
 ghost use Rattle.gp_isa.specs.InLimits.{AreInLimits};
+ghost use Rattle.gp_isa.specs.Limits.{most_functions};
 ghost use Rattle.gp_isa.specs.Statement.{action, most_bodies};
 ghost use Rattle.gp_isa.specs.Calls.{calls_of, calls_in, callees, first_from, first_recursive};
-ghost use Rattle.gp_isa.specs.kept.Ways.{is_among, marked, AddsMarks, AreCalls, GoThrough, AreLeads};
+ghost use Rattle.gp_isa.specs.kept.Ways.{is_among, marked, marks_below, AddsMarks, AreCalls, GoThrough, AreLeads};
+ghost use Rattle.gp_isa.specs.kept.Sizes.{AreRanks};
 
 use crate::limits;
 use crate::memory::Memory;
@@ -10,8 +13,8 @@ use crate::parts::Parts;
 use crate::statement::{Stmt, What};
 use std::alloc::Global;
 
-/// A mark for each function, of which there are 256 at most.
-type Row = [bool; 256];
+/// A mark for each function.
+pub type Row = [bool; limits::FUNCTIONS];
 
 // Marks the functions that statements call, in which loops stand at most `deep` inside each other.
 #[cycle(calls)]
@@ -49,10 +52,10 @@ fn mark_statement(what: &What, deep: u8, row: &mut [bool])
 
 // The functions that a function's statements call.
 fn call_row(body: &[Stmt]) -> Row
-    requires { All (λ h. h < 256) (calls_in most_bodies body.now) }
+    requires { All (λ h. h < most_functions) (calls_in most_bodies body.now) }
     ensures { (h : ℕ) → marked result h ≡ is_among h (calls_in most_bodies body.now) }
 {
-    let mut row = [false; 256];
+    let mut row = [false; limits::FUNCTIONS];
     mark_calls(body, limits::LOOPS, &mut row);
     row
 }
@@ -75,17 +78,15 @@ fn joined(row: Row, onward: Row) -> Row
     ensures { (h : ℕ) → marked result h ≡ (marked row h || marked onward h) }
 {
     let mut both = row;
-    for h in 0..256 {
-        if onward[h] {
-            both[h] = true;
-        }
+    for h in 0..limits::FUNCTIONS {
+        both[h] = row[h] || onward[h];
     }
     both
 }
 
 // Who leads to a function leads to where it leads.
 fn go_through(rows: &mut [Row], through: usize)
-    requires few { length rows.old ≤ 256 }
+    requires few { length rows.old ≤ most_functions }
     requires within { through < length rows.old }
     ensures { GoThrough rows.old rows.new through }
 {
@@ -98,22 +99,8 @@ fn go_through(rows: &mut [Row], through: usize)
     }
 }
 
-// The first row with a mark at its own place.
-fn round_trip(rows: &[Row]) -> Option<usize>
-    requires { length rows.now ≤ 256 }
-    ensures place { result ≡ first_from (λ f. marked (slice_index_or rows.now f []) f) 0 (length rows.now) }
-    ensures within { IfSome result (λ f. f < length rows.now) }
-{
-    for (f, row) in rows.iter().enumerate() {
-        if row[f] {
-            return Some(f);
-        }
-    }
-    None
-}
-
-// A row for each function, with marks where calls lead: after each round those through one function more.
-fn lead_rows(alloc: Global, parts: &Parts) -> Result<Vec<Row>, Memory>
+/// A row for each function, with marks where calls lead: after each round those through one function more.
+pub fn lead_rows(alloc: Global, parts: &Parts) -> Result<Vec<Row>, Memory>
     requires { AreInLimits parts.now }
     ensures len { IfOk result (λ rows. length rows.items ≡ length parts.now.functions) }
     ensures leads { IfOk result (λ rows. AreLeads parts.now (length parts.now.functions) rows.items) }
@@ -125,12 +112,45 @@ fn lead_rows(alloc: Global, parts: &Parts) -> Result<Vec<Row>, Memory>
     Ok(rows)
 }
 
-/// The first function that can call itself, directly or through others.
-pub fn recursive_place(alloc: Global, parts: &Parts) -> Result<Option<usize>, Memory>
-    requires { AreInLimits parts.now }
-    ensures place { IfOk result (λ place. place ≡ first_recursive parts.now) }
-    ensures within { IfOk result (λ place. IfSome place (λ f. f < length parts.now.functions)) }
+/// The first function that can call itself, directly or through others: the first row with a mark at its own place.
+pub fn recursive_place(rows: &[Row]) -> Option<usize>
+    requires { length rows.now ≤ most_functions }
+    ensures place { (parts : Parts) → AreInLimits parts → length rows.now ≡ length parts.functions →
+        AreLeads parts (length parts.functions) rows.now → result ≡ first_recursive parts }
+    ensures within { IfSome result (λ f. f < length rows.now) }
 {
-    let rows = lead_rows(alloc, parts)?;
-    Ok(round_trip(rows.as_slice()))
+    for (f, row) in rows.iter().enumerate() {
+        if row[f] {
+            return Some(f);
+        }
+    }
+    None
+}
+
+// How many marks a row has.
+fn mark_count(row: &Row) -> usize
+    ensures count { result ≡ marks_below row.now most_functions }
+    ensures few { result ≤ most_functions }
+{
+    let mut count = 0;
+    for h in 0..limits::FUNCTIONS {
+        if row[h] {
+            count += 1;
+        }
+    }
+    count
+}
+
+/// To how many functions calls lead from each function, where none can call itself. From a function called they lead
+/// to fewer: not to itself.
+pub fn ranks(alloc: Global, rows: &[Row]) -> Result<Vec<usize>, Memory>
+    ensures { IfOk result (λ ranks. (parts : Parts) → AreInLimits parts → first_recursive parts ≡ None →
+        length rows.now ≡ length parts.functions → AreLeads parts (length parts.functions) rows.now →
+        AreRanks parts most_functions ranks.items) }
+{
+    let mut ranks = Vec::new(alloc);
+    for row in rows {
+        ranks.push(mark_count(row))?;
+    }
+    Ok(ranks)
 }

@@ -7,12 +7,13 @@
 //! call itself, and no trace has more than 2^40 points.
 //!
 //! What a program does is its trace (`specs/Trace.antt`): the list of points that whoever runs a function passes.
-//! No code builds that list. `check` finds how long the traces are and how deep their stacks (`specs/Size.antt`) from
-//! a table with a size for each function: a round walks over all statements once, and follows calls one deeper by
-//! looking them up in the table of the round before. There are as many rounds as functions and one more, since calls
-//! can't go deeper. Who can call itself is told by a table with a mark for each two functions, which for one function
-//! after the other takes up the ways through it. So the time grows with the statements and not with the ways of
-//! calls. `Program` keeps the sizes, and `depth` and `length` read them off.
+//! No code builds that list. `check` finds how long the traces are, how deep their stacks, and whether all their points
+//! are local or work (`specs/Size.antt`): a table with a size for each function is filled with callees first, so that
+//! one walk over a function's statements gives its size. The order is told by ranks. A table with a mark for each two
+//! functions, which for one function after the other takes up the ways through it, says who leads to whom: so it tells
+//! who can call itself, and where none can, calls lead to fewer functions from a function called than from its caller.
+//! The time grows with the statements and not with the ways of calls. `Program` keeps the sizes, and `depth`, `length`
+//! and `size` read them off.
 //!
 //! The crate also has what all crates above share: `Memory` for want of memory, `Text`, and `Sequence`, a `Vec`
 //! that contracts see as a list, with `Content` for bytes.
@@ -43,5 +44,6 @@ pub use parts::{
 };
 pub use program::{Program, check};
 pub use sequence::{Content, Sequence};
+pub use size::Size;
 pub use statement::{Stmt, Stmts, What};
 pub use text::Text;

@@ -2,11 +2,11 @@ ghost use Rattle.std.specs.Prelude.{◌≡◌, ◌<◌, length, IfOk, IfErr, IfS
 ghost use Rattle.gp_isa.specs.InLimits.{AreInLimits};
 ghost use Rattle.gp_isa.specs.Checked.{main_of};
 ghost use Rattle.gp_isa.specs.Calls.{IsProgram, IsCause};
-ghost use Rattle.gp_isa.specs.Trace.{trace};
-ghost use Rattle.gp_isa.specs.Size.{depth_of};
+ghost use Rattle.gp_isa.specs.Trace.{trace, is_local};
+ghost use Rattle.gp_isa.specs.Size.{depth_of, most_frames, is_work, all_pass};
 
 use crate::bad::Bad;
-use crate::calls::recursive_place;
+use crate::calls::{lead_rows, ranks, recursive_place};
 use crate::empty::empty_place;
 use crate::parts::Parts;
 use crate::size::{Size, long_place, most_frames, trace_sizes};
@@ -82,6 +82,17 @@ impl Program {
     {
         self.sizes[f as usize].points
     }
+
+    /// The size of the trace of function `f`.
+    pub fn size(&self, f: u32) -> Size
+        requires { f < length self.now.functions }
+        ensures points { result.points ≡ length (trace self.now f) }
+        ensures frames { result.frames ≡ most_frames (trace self.now f) }
+        ensures local { result.local ≡ all_pass is_local (trace self.now f) }
+        ensures work { result.work ≡ all_pass is_work (trace self.now f) }
+    {
+        self.sizes[f as usize]
+    }
 }
 
 /// Checks the parts of a program file. They are tested for `main`, for bodies without a statement, for functions
@@ -101,12 +112,14 @@ pub fn check(alloc: Global, parts: Parts) -> Result<Program, Bad>
             function: function as u32,
         });
     }
-    if let Some(function) = recursive_place(alloc, &parts)? {
+    let rows = lead_rows(alloc, &parts)?;
+    if let Some(function) = recursive_place(rows.as_slice()) {
         return Err(Bad::Recursion {
             function: function as u32,
         });
     }
-    let sizes = trace_sizes(alloc, &parts)?;
+    let ranks = ranks(alloc, rows.as_slice())?;
+    let sizes = trace_sizes(alloc, &parts, ranks.as_slice())?;
     if let Some(function) = long_place(sizes.as_slice()) {
         return Err(Bad::TooLong {
             function: function as u32,

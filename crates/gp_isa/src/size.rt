@@ -1,10 +1,11 @@
-ghost use Rattle.std.specs.Prelude.{◌≡◌, ◌<◌, ◌-◌, ◌+◌, ◌++◌, ◌^◌, ℕ, suc, List, ◌∷◌, [], length, map, replicate, All, IfOk, IfSome, ◌≤◌, nat_lt, slice_index_or};
-ghost use Rattle.gp_isa.specs.Limits.{most_points};
-ghost use Rattle.gp_isa.specs.Calls.{first_from};
+ghost use Rattle.std.specs.Prelude.{◌≡◌, None, false, ◌<◌, ◌-◌, ◌+◌, ◌++◌, ◌^◌, ℕ, suc, List, ◌∷◌, [], length, map, replicate, All, IfOk, IfSome, ◌≤◌, nat_lt, slice_index_or};
+ghost use Rattle.gp_isa.specs.Limits.{most_functions, most_points};
+ghost use Rattle.gp_isa.specs.InLimits.{AreInLimits};
+ghost use Rattle.gp_isa.specs.Calls.{first_from, first_recursive};
 ghost use Rattle.gp_isa.specs.Statement.{action};
-ghost use Rattle.gp_isa.specs.Trace.{Point, Instruction, Local, point_at, called_at, repeated, points_at, points_of_body, points_of, trace};
-ghost use Rattle.gp_isa.specs.Size.{most_frames_below};
-ghost use Rattle.gp_isa.specs.kept.Sizes.{size_of, AreSizes};
+ghost use Rattle.gp_isa.specs.Trace.{Point, Instruction, Local, is_local, point_at, called_at, repeated, points_at, points_of_body, trace};
+ghost use Rattle.gp_isa.specs.Size.{most_frames_below, is_work};
+ghost use Rattle.gp_isa.specs.kept.Sizes.{size_of, no_size, AreSizes, AreRanks, AreSomeSizes};
 
 use crate::limits;
 use crate::memory::Memory;
@@ -19,6 +20,10 @@ pub struct Size {
     pub points: u64,
     /// The most frames of a stack of these points.
     pub frames: u32,
+    /// Whether all points are local.
+    pub local: bool,
+    /// Whether all points are instructions of work.
+    pub work: bool,
 }
 
 impl Size {
@@ -28,16 +33,21 @@ impl Size {
         Size {
             points: 0,
             frames: 0,
+            local: true,
+            work: true,
         }
     }
 
-    // A shared point, or that of a new label set.
-    fn one() -> Size
-        ensures { (f line : ℕ) (instruction : Instruction) → result ≡ size_of (point_at f line instruction ∷ []) }
+    // A shared point, or that of a new label set, which is local.
+    fn one(local: bool) -> Size
+        ensures { (f line : ℕ) (instruction : Instruction) → is_local instruction ≡ local → is_work instruction ≡ false →
+            result ≡ size_of (point_at f line instruction ∷ []) }
     {
         Size {
             points: 1,
             frames: 1,
+            local,
+            work: false,
         }
     }
 
@@ -48,6 +58,8 @@ impl Size {
         Size {
             points: n as u64,
             frames: if n == 0 { 0 } else { 1 },
+            local: true,
+            work: true,
         }
     }
 
@@ -61,6 +73,8 @@ impl Size {
                 .saturating_add(next.points)
                 .min(limits::POINTS + 1),
             frames: self.frames.max(next.frames),
+            local: self.local & next.local,
+            work: self.work & next.work,
         }
     }
 
@@ -72,6 +86,8 @@ impl Size {
         Size {
             points: self.points,
             frames: if self.points == 0 { 0 } else { self.frames + 1 },
+            local: self.local,
+            work: self.work,
         }
     }
 
@@ -79,9 +95,12 @@ impl Size {
     fn repeated(self, n: u32) -> Size
         ensures { (points : List Point) → self ≡ size_of points → result ≡ size_of (repeated n points) }
     {
+        if n == 0 {
+            return Size::none();
+        }
         Size {
             points: self.points.saturating_mul(n as u64).min(limits::POINTS + 1),
-            frames: if n == 0 { 0 } else { self.frames },
+            ..self
         }
     }
 }
@@ -118,12 +137,12 @@ fn statement_size(what: &What, deep: u8, sizes: &[Size]) -> Size
             };
             once.repeated(*n)
         }
+        What::Labels { .. } => Size::one(true),
         What::Send { .. }
         | What::Recv { .. }
         | What::Lock { .. }
         | What::Unlock { .. }
-        | What::Spawn { .. }
-        | What::Labels { .. } => Size::one(),
+        | What::Spawn { .. } => Size::one(false),
     }
 }
 
@@ -134,30 +153,41 @@ fn size_at(sizes: &[Size], f: u32) -> Size
     sizes.get(f as usize).copied().unwrap_or(Size::none())
 }
 
-// The sizes with calls followed one deeper.
-fn deeper_sizes(alloc: Global, parts: &Parts, sizes: &[Size]) -> Result<Vec<Size>, Memory>
-    requires { All (λ s. s.frames < 2 ^ 32 - 1) sizes.now }
-    ensures len { IfOk result (λ deeper. length deeper.items ≡ length parts.now.functions) }
-    ensures sizes { IfOk result (λ deeper. (calls : ℕ → List Point) → AreSizes sizes.now calls →
-        AreSizes deeper.items (points_of parts.now calls)) }
+// Sizes of no points, one for each function.
+fn no_sizes(alloc: Global, parts: &Parts) -> Result<Vec<Size>, Memory>
+    ensures { IfOk result (λ sizes. sizes.items ≡ replicate (length parts.now.functions) no_size) }
 {
-    let mut deeper = Vec::new(alloc);
-    for function in parts.functions.as_slice() {
-        deeper.push(body_size(function.body.as_slice(), limits::LOOPS, sizes))?;
-    }
-    Ok(deeper)
+    Ok(Vec::from_elem(alloc, Size::none(), parts.functions.len())?)
 }
 
-/// The sizes of the functions' traces. Calls go no deeper than there are functions, so each round looks at each
-/// statement once.
-pub fn trace_sizes(alloc: Global, parts: &Parts) -> Result<Vec<Size>, Memory>
-    requires { length parts.now.functions ≤ 256 }
+// The sizes of the functions of one rank, where those of lower ranks are there.
+fn size_rank(parts: &Parts, ranks: &[usize], rank: usize, sizes: &mut [Size])
+    requires limits { AreInLimits parts.now }
+    requires acyclic { first_recursive parts.now ≡ None }
+    requires ranks { AreRanks parts.now most_functions ranks.now }
+    requires before { AreSomeSizes parts.now sizes.old (λ f. slice_index_or ranks.now f 0 < rank) }
+    ensures { AreSomeSizes parts.now sizes.new (λ f. slice_index_or ranks.now f 0 < rank + 1) }
+{
+    let functions = parts.functions.as_slice();
+    for f in 0..functions.len() {
+        if ranks[f] == rank {
+            sizes[f] = body_size(functions[f].body.as_slice(), limits::LOOPS, sizes);
+        }
+    }
+}
+
+/// The sizes of the functions' traces. Each comes after those of the functions that it calls, so that one walk over its
+/// statements gives it.
+pub fn trace_sizes(alloc: Global, parts: &Parts, ranks: &[usize]) -> Result<Vec<Size>, Memory>
+    requires limits { AreInLimits parts.now }
+    requires acyclic { first_recursive parts.now ≡ None }
+    requires ranks { AreRanks parts.now most_functions ranks.now }
     ensures len { IfOk result (λ sizes. length sizes.items ≡ length parts.now.functions) }
     ensures sizes { IfOk result (λ sizes. AreSizes sizes.items (trace parts.now)) }
 {
-    let mut sizes = deeper_sizes(alloc, parts, &[])?;
-    for _round in 0..parts.functions.len() {
-        sizes = deeper_sizes(alloc, parts, sizes.as_slice())?;
+    let mut sizes = no_sizes(alloc, parts)?;
+    for rank in 0..limits::FUNCTIONS + 1 {
+        size_rank(parts, ranks, rank, sizes.as_mut_slice());
     }
     Ok(sizes)
 }

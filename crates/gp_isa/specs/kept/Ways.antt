@@ -1,5 +1,5 @@
 -- Ways of calls, and tables of who is led to from where.
-use Rattle.std.specs.Prelude.{◌≡◌, ◌<◌, ℕ, Bool, true, false, ◌||◌, ◌&&◌, ◌==◌, List, [], ◌∷◌, slice_index_or}
+use Rattle.std.specs.Prelude.{◌≡◌, ◌<◌, ◌+◌, ℕ, zero, suc, Bool, true, false, ◌||◌, ◌&&◌, ◌==◌, cond, List, [], ◌∷◌, slice_index_or}
 use Rattle.std.specs.Bool.{Decides}
 use Rattle.std.specs.List.{All, list_any}
 use Rattle.gp_isa.specs.declared.parts.Parts.{Parts}
@@ -12,6 +12,11 @@ is_among h hs = list_any (λ g. h == g) hs
 -- whether a row has a mark at a place
 abbrev pub marked : List Bool → ℕ → Bool
 marked row h = slice_index_or row h false
+
+-- how many marks a row has at the first places
+unfoldable pub marks_below : List Bool → ℕ → ℕ
+marks_below row zero = 0
+marks_below row (suc n) = marks_below row n + cond (marked row n) 1 0
 
 -- a row with marks at the functions called, and those that it had
 pub record AddsMarks (old new : List Bool) (called : List ℕ) : Type 0 where

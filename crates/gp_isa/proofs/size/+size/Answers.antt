@@ -1,8 +1,8 @@
-use Rattle.std.proofs.Common.{◌≡◌, suc, ◌-◌, ◌∙◌, sym, ap, flat_map}
+use Rattle.std.proofs.Common.{◌≡◌, suc, ◌-◌, ◌∙◌, refl, sym, ap, flat_map}
 use Rattle.std.proofs.lemmas.List.{take_all}
-use Rattle.gp_isa.specs.Trace.{points_of_body}
+use Rattle.gp_isa.specs.Trace.{Labels, points_of_body}
 use Rattle.gp_isa.specs.kept.Sizes.{size_of}
-use Rattle.gp_isa.proofs.Points.{points_of_body-none, points_of_body-some, points_of_statement, points_of_body-more, points_at-loop, size_of-one}
+use Rattle.gp_isa.proofs.Points.{points_of_body-none, points_of_body-some, points_of_statement, points_of_body-more, points_at-loop, size_of-labels, size_of-shared}
 use Rattle.gp_isa.proofs.size.+size.Goals as goal
 use Rattle.gp_isa.proofs.size.+size.Goals.{statement_size-then-deep-eq0, statement_size-else-deep-eq0}
 
@@ -21,7 +21,11 @@ statement_size-returns-after-deep-eq0 t c calls f line are =
 
 pub statement_size-returns-in-Send : goal.statement_size-returns-in-Send
 statement_size-returns-in-Send t c calls f line are =
-    size_of-one calls f (points_of_body calls f c.args.deep) line c.args.what.now c.one.result (c.one.ensures f line) c.in-Send.is
+    size_of-shared calls f (points_of_body calls f c.args.deep) line c.args.what.now c.one-in-Send.result (c.one-in-Send.ensures f line) c.in-Send.is
+
+pub statement_size-returns-in-Labels : goal.statement_size-returns-in-Labels
+statement_size-returns-in-Labels t c calls f line are =
+    size_of-labels calls f (points_of_body calls f c.args.deep) line c.args.what.now c.one.result c.in-Labels.s (c.one.ensures f line (Labels c.in-Labels.s) refl refl) c.in-Labels.is
 
 pub body_size-returns : goal.body_size-returns
 body_size-returns t c calls f are =

@@ -1,11 +1,7 @@
--- The sizes are those of the traces with calls followed as deep as there were rounds.
-use Rattle.std.proofs.Common.{◌≡◌, length}
-use Rattle.gp_isa.specs.Trace.{trace_within}
-use Rattle.gp_isa.specs.kept.Sizes.{AreSizes}
+-- Functions of the ranks so far are done.
+use Rattle.std.proofs.Common.{◌<◌, get_or}
+use Rattle.gp_isa.specs.kept.Sizes.{AreSomeSizes}
 use Rattle.gp_isa.proofs.size.trace_sizes.Given as goal
 
-abbrev pub invariant-loop-round : goal.invariant-loop-round
-invariant-loop-round l = record {
-  len : length l.sizes.items ≡ length l.parts.functions;
-  sizes : AreSizes l.sizes.items (trace_within l.parts l._round);
-}
+abbrev pub invariant-loop-rank : goal.invariant-loop-rank
+invariant-loop-rank l = AreSomeSizes l.parts l.sizes.items (λ k. get_or l.ranks k 0 < l.rank)

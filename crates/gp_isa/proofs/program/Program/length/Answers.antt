@@ -3,6 +3,7 @@ use Rattle.std.proofs.lemmas.List.{get_or_read}
 use Rattle.gp_isa.specs.declared.parts.Parts.{Parts}
 use Rattle.gp_isa.specs.declared.size.Size.{Size}
 use Rattle.gp_isa.specs.Trace.{trace}
+use Rattle.gp_isa.specs.kept.Sizes.{no_size}
 use Rattle.gp_isa.proofs.Lengths.{points_are}
 use Rattle.gp_isa.proofs.program.Program.length.Goals as goal
 
@@ -10,6 +11,6 @@ pub returns : goal.returns
 returns c =
     let there : c.args.f < length c.self.inside.parts.functions = subst (λ (parts : Parts). c.args.f < length parts.functions) (sym c.self.view_is) c.requires in
     let within : c.args.f < length c.self.inside.sizes.items = omega (arith, there, c.self.invariant.count) in
-    ap (λ (s : Size). s.points) (get_or_read c.self.inside.sizes.items c.args.f c.index.result.now within c.index.ensures (record { points = 0; frames = 0 })) ∙
+    ap (λ (s : Size). s.points) (get_or_read c.self.inside.sizes.items c.args.f c.index.result.now within c.index.ensures no_size) ∙
     points_are c.self.inside.parts c.self.inside.sizes.items c.self.invariant.traces c.self.invariant.checked c.args.f there ∙
     ap (λ (parts : Parts). length (trace parts c.args.f)) c.self.view_is
