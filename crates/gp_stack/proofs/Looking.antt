@@ -1,12 +1,14 @@
 -- Looks at statements and at the turns of a body.
-use Rattle.std.proofs.Common.{◌≡◌, ◌<◌, ◌≤◌, ◌+◌, ◌-◌, min, ℕ, zero, suc, List, [], ◌∷◌, ◌++◌, length, drop, take, reverse, get_or, map, replicate, Option, Some, None, refl, ap, sym, ◌∙◌, arith, subst, add-one}
+use Rattle.std.proofs.Common.{◌≡◌, ◌<◌, ◌≤◌, ◌+◌, ◌-◌, ◌*◌, true, min, ℕ, zero, suc, List, [], ◌∷◌, ◌++◌, length, drop, take, reverse, get_or, map, replicate, Option, Some, None, refl, ap, ap₂, sym, ◌∙◌, arith, subst, add-one}
 use Rattle.std.specs.Prelude.{slice_get}
-use Rattle.std.proofs.lemmas.List.{map-append, drop_all, drop-drop}
+use Rattle.std.proofs.lemmas.List.{map-append, drop_all, drop-drop, replicate-append-replicate}
 use Rattle.gp_isa.specs.declared.parts.Parts.{Parts}
 use Rattle.gp_isa.specs.declared.statement.Stmt.{Stmt}
 use Rattle.gp_isa.specs.declared.statement.What.TheOpen.{Work, Call, Loop, Labels}
 use Rattle.gp_isa.specs.Statement.{Action, action_of, line_of}
-use Rattle.gp_isa.specs.Trace.{Point, Local as LocalPoint, point_at, called_at, repeated, body_of, trace}
+use Rattle.gp_isa.specs.Calls.{IsProgram}
+use Rattle.gp_isa.specs.Size.{most_frames, all_pass}
+use Rattle.gp_isa.specs.Trace.{Point, Local as LocalPoint, is_local, point_at, called_at, repeated, body_of, trace}
 use Rattle.gp_stack.specs.declared.peek.Peek.{Peek}
 use Rattle.gp_stack.specs.declared.peek.Then.TheVariants.{Shared, Over}
 use Rattle.gp_stack.specs.declared.statement.Operation.{Operation}
@@ -22,8 +24,9 @@ use Rattle.gp_stack.specs.Peek.{operation_of, first_of, then_at}
 use Rattle.gp_stack.specs.kept.Looks.{steps, peek_of, points_of_action, points_of_all}
 use Rattle.gp_stack.proofs.Levels.{drop_at}
 use Rattle.gp_stack.proofs.Moves.{body_cons, body_nil, trace_call, no_function, repeated_none, left_cons, left_none, left_next}
-use Rattle.gp_stack.proofs.Peeks.{Sees, plus, peek_on, peek_stop, sees_none, sees_on, sees_stop, sees_end, peek_le, steps_called, peek_local, peek_then}
+use Rattle.gp_stack.proofs.Peeks.{Sees, plus, peek_all, steps_local, peek_on, peek_stop, sees_none, sees_on, sees_stop, sees_end, peek_le, steps_called, peek_local, peek_then}
 use Rattle.gp_stack.proofs.Climbing.{around}
+use Rattle.gp_stack.proofs.Deep.{deep_enough}
 use Rattle.gp_stack.proofs.Stands.{does_one, does_within, next_work, next_shared, shared_point, over_ahead}
 use Rattle.gp_stack.proofs.Points.{work_left}
 
@@ -82,35 +85,31 @@ seen_end parts calls loops body from at limit local past sees f =
     let none : points_of_all parts calls loops f (drop at body) ≡ [] = ap (points_of_all parts calls loops f) (drop_all at body past) ∙ all_nil parts calls loops f in
     sees_end (steps (points_of_all parts calls loops f (drop from body))) limit local (subst (λ rest. Sees (steps (points_of_all parts calls loops f (drop from body))) limit local (steps rest)) none (sees f))
 
-abbrev SeesTurns : Parts → ℕ → ℕ → List Stmt → ℕ → ℕ → ℕ → ℕ → Type 0
-SeesTurns parts calls loops body n turns limit local =
-    (f : ℕ) → Sees (steps (repeated n (points_of_all parts calls loops f body))) limit local (steps (repeated turns (points_of_all parts calls loops f body)))
+-- so many turns of local points are so many times as many
+times_local : (n k : ℕ) (points : List Point) → steps points ≡ replicate k None → steps (repeated n points) ≡ replicate (k * n) None
+times_local zero k points is = let none : k * zero ≡ 0 = omega arith in rw none refl
+times_local (suc n) k points is =
+    let next : k * suc n ≡ k + k * n = omega arith in
+    rw next (map-append (λ point. operation_of point.instruction) points (repeated n points) ∙ (ap₂ (λ xs ys. xs ++ ys) is (times_local n k points is) ∙ replicate-append-replicate k (k * n) None))
 
-turn_split : (points : List Point) (turns : ℕ) → 0 < turns → steps (repeated turns points) ≡ steps points ++ steps (repeated (turns - 1) points)
-turn_split points zero some = absurd (omega arith)
-turn_split points (suc turns) some = let same : suc turns - 1 ≡ turns = omega arith in rw same (map-append (λ point. operation_of point.instruction) points (repeated turns points))
+pub turns_none : (parts : Parts) (calls loops n limit f : ℕ) (body : List Stmt) → n ≡ 0 → record { local = 0; then = Over } ≡ peek_of (steps (repeated n (points_of_all parts calls loops f body))) limit
+turns_none parts calls loops n limit f body none = rw none refl
 
-pub turn_few : (parts : Parts) (calls loops : ℕ) (body : List Stmt) (limit local : ℕ) (seen : Peek) → ((f : ℕ) → seen ≡ peek_of (steps (points_of_all parts calls loops f body)) (limit - local)) → seen.local ≤ limit - local
-turn_few parts calls loops body limit local seen looked =
-    rw (looked 0) (peek_le (steps (points_of_all parts calls loops 0 body)) (limit - local))
+pub turns_stop : (parts : Parts) (calls loops n limit f : ℕ) (body : List Stmt) (once : Peek) → (n ≡ 0 → ⊥) → once ≡ peek_of (steps (points_of_all parts calls loops f body)) limit → (once.then ≡ Over → ⊥) →
+    once ≡ peek_of (steps (repeated n (points_of_all parts calls loops f body))) limit
+turns_stop parts calls loops zero limit f body once some is more = absurd (some refl)
+turns_stop parts calls loops (suc n) limit f body once some is more =
+    let points : List Point = points_of_all parts calls loops f body in
+    is ∙ (sym (peek_stop (steps points) (steps (repeated n points)) limit (λ e. more (ap (λ p. p.then) is ∙ e))) ∙
+    ap (λ xs. peek_of xs limit) (sym (map-append (λ point. operation_of point.instruction) points (repeated n points))))
 
-pub turn_on : (parts : Parts) (calls loops : ℕ) (body : List Stmt) (n turns limit local : ℕ) (seen : Peek) → 0 < turns → ((f : ℕ) → seen ≡ peek_of (steps (points_of_all parts calls loops f body)) (limit - local)) →
-    SeesTurns parts calls loops body n turns limit local → seen.then ≡ Over → SeesTurns parts calls loops body n (turns - 1) limit (local + seen.local)
-turn_on parts calls loops body n turns limit local seen some looked sees over f =
-    sees_on (steps (repeated n (points_of_all parts calls loops f body))) (steps (repeated turns (points_of_all parts calls loops f body))) (steps (points_of_all parts calls loops f body))
-    (steps (repeated (turns - 1) (points_of_all parts calls loops f body))) limit local seen (sees f) (turn_split (points_of_all parts calls loops f body) turns some) (looked f) over
-
-pub turn_stop : (parts : Parts) (calls loops : ℕ) (body : List Stmt) (n turns limit local : ℕ) (seen : Peek) → 0 < turns → ((f : ℕ) → seen ≡ peek_of (steps (points_of_all parts calls loops f body)) (limit - local)) →
-    SeesTurns parts calls loops body n turns limit local → (seen.then ≡ Over → ⊥) → (f : ℕ) → record { local = local + seen.local; then = seen.then } ≡ peek_of (steps (repeated n (points_of_all parts calls loops f body))) limit
-turn_stop parts calls loops body n turns limit local seen some looked sees more f =
-    sees_stop (steps (repeated n (points_of_all parts calls loops f body))) (steps (repeated turns (points_of_all parts calls loops f body))) (steps (points_of_all parts calls loops f body))
-    (steps (repeated (turns - 1) (points_of_all parts calls loops f body))) limit local seen (sees f) (turn_split (points_of_all parts calls loops f body) turns some) (looked f) more
-
-pub turn_end : (parts : Parts) (calls loops : ℕ) (body : List Stmt) (n turns limit local : ℕ) → turns ≡ 0 → SeesTurns parts calls loops body n turns limit local → (f : ℕ) →
-    record { local = local; then = Over } ≡ peek_of (steps (repeated n (points_of_all parts calls loops f body))) limit
-turn_end parts calls loops body n turns limit local none sees f =
-    sees_end (steps (repeated n (points_of_all parts calls loops f body))) limit local (subst (λ t. Sees (steps (repeated n (points_of_all parts calls loops f body))) limit local (steps (repeated t (points_of_all parts calls loops f body)))) none
-    (sees f))
+pub turns_times : (parts : Parts) (calls loops n limit f : ℕ) (body : List Stmt) (once all : Peek) → once ≡ peek_of (steps (points_of_all parts calls loops f body)) limit → once.then ≡ Over →
+    all ≡ peek_of (replicate (once.local * n) None) limit → all ≡ peek_of (steps (repeated n (points_of_all parts calls loops f body))) limit
+turns_times parts calls loops n limit f body once all is over times =
+    let points : List Point = points_of_all parts calls loops f body in
+    let local : steps points ≡ replicate once.local None =
+    peek_all (steps points) limit (sym (ap (λ p. p.then) is) ∙ over) ∙ ap (λ p. replicate p.local None) (sym is) in
+    times ∙ ap (λ xs. peek_of xs limit) (sym (times_local n once.local points local))
 
 -- what stands at a place is one statement
 known : (P : Action → Type 0) (body : List Stmt) (at : ℕ) (b : Action) → Does body at b → P b → (a : Action) → Does body at a → P a
@@ -204,6 +203,18 @@ pub at_call : (parts : Parts) (calls loops : ℕ) (body : List Stmt) (at limit h
 at_call parts calls loops body at limit h called seen d some same is f line =
     known (LookedAs parts calls loops seen limit f line) body at (Call h) d
     (is h ∙ (ap (λ b. peek_of (steps (points_of_all parts (calls - 1) 8 h (drop 0 b))) limit) same ∙ ap (λ xs. peek_of xs limit) (ap steps (call_points parts calls h some) ∙ sym (action_call parts calls loops f line h))))
+
+-- the points of a call that are all local, with calls followed deep enough
+pub called_local : (parts : Parts) → IsProgram parts → (calls h n : ℕ) → most_frames (trace parts h) ≤ calls → all_pass is_local (trace parts h) ≡ true → n ≡ length (trace parts h) →
+    steps (points_of_call parts calls h) ≡ replicate n None
+called_local parts program calls h n few all count =
+    ap steps (deep_enough parts program calls h few) ∙ (steps_local (trace parts h) all ∙ ap (λ k. replicate k None) (sym count))
+
+-- a call whose points are all local
+pub at_local_call : (parts : Parts) (calls loops : ℕ) (body : List Stmt) (at limit h n : ℕ) (seen : Peek) → Does body at (Call h) → steps (points_of_call parts calls h) ≡ replicate n None →
+    seen ≡ peek_of (replicate n None) limit → Looked parts calls loops body at seen limit
+at_local_call parts calls loops body at limit h n seen d local is f line =
+    known (LookedAs parts calls loops seen limit f line) body at (Call h) d (is ∙ ap (λ xs. peek_of xs limit) (sym (action_call parts calls loops f line h ∙ local)))
 
 -- what is left of a level: the rest of its statements, and then its turns
 abbrev of_level : Parts → Level → List Stmt → List Point

@@ -1,6 +1,8 @@
 -- Looks at points, one piece after another.
-use Rattle.std.proofs.Common.{◌≡◌, ◌<◌, ◌≤◌, ◌+◌, ◌-◌, ℕ, zero, suc, min, Bool, true, false, cond, List, [], ◌∷◌, ◌++◌, drop, map, replicate, Option, Some, None, refl, ap, sym, ◌∙◌, arith}
+use Rattle.std.proofs.Common.{◌≡◌, ◌^◌, ◌⊎◌, inl, inr, ◌<◌, ◌≤◌, ◌+◌, ◌-◌, ℕ, zero, suc, min, Bool, true, false, cond, List, [], ◌∷◌, ◌++◌, length, drop, map, replicate, Option, Some, None, refl, ap, ap₂, sym, ◌∙◌, arith, true≢false}
+use Rattle.std.proofs.lemmas.Bool.{and_parts, cases_lt}
 use Rattle.std.specs.List.{prefix_len}
+use Rattle.gp_isa.specs.Size.{all_pass}
 use Rattle.gp_isa.specs.declared.frame.Frame.{Frame}
 use Rattle.gp_isa.specs.Trace.{Instruction, Local as LocalPoint, Labels, Send, Recv, Lock, Unlock, Spawn, Point, is_local}
 use Rattle.gp_stack.specs.declared.peek.Peek.{Peek}
@@ -48,11 +50,43 @@ peek_le (Some o ∷ xs) limit = omega arith
 pub peek_few : (xs : List (Option Operation)) (limit : ℕ) (seen : Peek) → seen ≡ peek_of xs limit → seen.local ≤ limit
 peek_few xs limit seen is = rw is (peek_le xs limit)
 
+kinds : (P : Bool → Option Operation → Type 0) → P true None → ((o : Operation) → P false (Some o)) → (i : Instruction) → P (is_local i) (operation_of i)
+kinds P l s LocalPoint = l
+kinds P l s (Labels set) = l
+kinds P l s (Send c) = s _
+kinds P l s (Recv c) = s _
+kinds P l s (Lock m) = s _
+kinds P l s (Unlock m) = s _
+kinds P l s (Spawn f) = s _
+
+-- a look that comes to the end has found local points alone
+pub peek_all : (xs : List (Option Operation)) (limit : ℕ) → (peek_of xs limit).then ≡ Over → xs ≡ replicate (peek_of xs limit).local None
+peek_all [] limit over = refl
+peek_all (None ∷ xs) zero over = cc
+peek_all (None ∷ xs) (suc limit) over =
+    let one : (peek_of xs limit).local + 1 ≡ suc (peek_of xs limit).local = omega arith in rw one (ap (λ ys. None ∷ ys) (peek_all xs limit over))
+peek_all (Some o ∷ xs) limit over = cc
+
+-- local points are shown as such
+pub steps_local : (points : List Point) → all_pass is_local points ≡ true → steps points ≡ replicate (length points) None
+steps_local [] all = refl
+steps_local (p ∷ points) all =
+    let both : (is_local p.instruction ≡ true) × (all_pass is_local points ≡ true) = and_parts (is_local p.instruction) (all_pass is_local points) all in
+    ap₂ (λ o os. o ∷ os) (kinds (λ b o. b ≡ true → o ≡ None) (λ e. refl) (λ o e. absurd (true≢false (sym e))) p.instruction both.0) (steps_local points both.1)
+
 pub work_more : (n limit : ℕ) → limit < n → record { local = limit; then = Local } ≡ peek_of (replicate n None) limit
 work_more zero limit more = absurd (omega arith)
 work_more (suc n) zero more = refl
 work_more (suc n) (suc limit) more =
     rw (← work_more n limit (omega arith)) (ap (λ l. record { local = l; then = Local }) (omega arith))
+
+-- more than a number of 64 bits is more than the limit
+pub past_limit : (n limit : ℕ) → (n < 2 ^ 64 → ⊥) → limit < 2 ^ 64 → limit < n
+past_limit n limit past few = at (cases_lt n (2 ^ 64))
+  where
+    at : (n < 2 ^ 64) ⊎ (2 ^ 64 ≤ n) → limit < n
+    at (inl fits) = absurd (past fits)
+    at (inr more) = omega arith
 
 pub work_all : (n limit : ℕ) → n ≤ limit → record { local = n; then = Over } ≡ peek_of (replicate n None) limit
 work_all zero limit few = refl
@@ -92,18 +126,6 @@ pub sees_end : (xs : List (Option Operation)) (limit n : ℕ) → Sees xs limit 
 sees_end xs limit n sees = sym (sees.finds ∙ ap (λ l. record { local = l; then = Over }) (omega arith))
 
 -- what a look finds, told by the points
-pub record IsLocalOr (i : Instruction) : Type 0 where
-  pub o : Option Operation
-
-kinds : (P : Bool → Option Operation → Type 0) → P true None → ((o : Operation) → P false (Some o)) → (i : Instruction) → P (is_local i) (operation_of i)
-kinds P l s LocalPoint = l
-kinds P l s (Labels set) = l
-kinds P l s (Send c) = s _
-kinds P l s (Recv c) = s _
-kinds P l s (Lock m) = s _
-kinds P l s (Unlock m) = s _
-kinds P l s (Spawn f) = s _
-
 pub peek_local : (points : List Point) (limit : ℕ) → (peek_of (steps points) limit).local ≡ min limit (prefix_len (λ point. is_local point.instruction) points)
 peek_local [] limit = omega arith
 peek_local (p ∷ points) limit =

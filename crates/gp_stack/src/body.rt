@@ -11,7 +11,7 @@ ghost use Rattle.gp_stack.specs.Body.{Progress, progress_of, is_over_at, stack_a
 ghost use Rattle.gp_stack.specs.Record.{record_of};
 
 use crate::climb::{Climb, leaf, word};
-use crate::peek::{Peek, Then, look_work};
+use crate::peek::{Peek, Then, look_local};
 use crate::place::Place;
 use crate::record::{Record, Stack};
 use crate::statement::Ahead;
@@ -139,10 +139,10 @@ impl Body {
     {
         match self.place.ahead(program) {
             Ahead::Work(n) => {
-                let first = look_work(n - self.passed, limit);
+                let first = look_local((n - self.passed) as u64, limit);
                 self.place.look_past(program, first, limit)
             }
-            Ahead::Labels(_) => self.place.look_past(program, look_work(1, limit), limit),
+            Ahead::Labels(_) => self.place.look_past(program, look_local(1, limit), limit),
             Ahead::Shared(operation) => Peek {
                 local: 0,
                 then: Then::Shared(operation),

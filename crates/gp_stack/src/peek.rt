@@ -1,10 +1,10 @@
-ghost use Rattle.std.specs.Prelude.{◌≡◌, ◌+◌, ◌≤◌, ◌<◌, ◌^◌, ℕ, drop, reverse, replicate, None, []};
+ghost use Rattle.std.specs.Prelude.{◌≡◌, ◌+◌, ◌*◌, ◌≤◌, ◌<◌, ◌^◌, ℕ, drop, reverse, replicate, None, [], IfSome};
 ghost use Rattle.std.specs.Bool.{OnTrue, OnFalse};
 ghost use Rattle.gp_isa.specs.Statement.{Action};
 ghost use Rattle.gp_isa.specs.Limits.{most_loops};
 ghost use Rattle.gp_isa.specs.Trace.{repeated};
 ghost use Rattle.gp_stack.specs.kept.Ahead.{Does};
-ghost use Rattle.gp_stack.specs.kept.Level.{body_at, left_here};
+ghost use Rattle.gp_stack.specs.kept.Level.{body_at, left_here, points_of_call};
 ghost use Rattle.gp_stack.specs.declared.peek.Then.TheVariants.{Over};
 ghost use Rattle.gp_stack.specs.kept.Looks.{peek_of, steps, points_of_action, points_of_all};
 
@@ -46,11 +46,10 @@ impl Peek {
 }
 
 /// `n` local points.
-pub(crate) fn look_work(n: u32, limit: u64) -> Peek
+pub(crate) fn look_local(n: u64, limit: u64) -> Peek
     ensures finds { result ≡ peek_of (replicate n None) limit }
     ensures few { result.local ≤ limit }
 {
-    let n = n as u64;
     if limit < n {
         Peek {
             local: limit,
@@ -62,6 +61,21 @@ pub(crate) fn look_work(n: u32, limit: u64) -> Peek
             then: Then::Over,
         }
     }
+}
+
+/// How many points a call of function `h` has where all are local, with calls followed so deep.
+fn local_call(program: &Program, calls: u16, h: u32) -> Option<u64>
+    ensures { IfSome result (λ n. steps (points_of_call program.now calls h) ≡ replicate n None) }
+{
+    if h as usize >= program.parts().functions.len() {
+        return None;
+    }
+    let size = program.size(h);
+    // (calls are followed as deep as the stacks are, wherever a body is)
+    if size.frames > calls as u32 {
+        return None;
+    }
+    if size.local { Some(size.points) } else { None }
 }
 
 /// The points of statement `at`, with calls and loops followed so deep.
@@ -84,8 +98,8 @@ fn look_at(
     };
     match statement_at(statements, at) {
         Ahead::End => nothing,
-        Ahead::Work(n) => look_work(n, limit),
-        Ahead::Labels(_) => look_work(1, limit),
+        Ahead::Work(n) => look_local(n as u64, limit),
+        Ahead::Labels(_) => look_local(1, limit),
         Ahead::Loop(n, inner) => {
             if loops == 0 {
                 return nothing;
@@ -98,6 +112,9 @@ fn look_at(
             }
             if h as usize >= program.parts().functions.len() {
                 return nothing;
+            }
+            if let Some(n) = local_call(program, calls, h) {
+                return look_local(n, limit);
             }
             let called = function_body(program.parts(), h as u8);
             look_on(program, calls - 1, LOOPS, called, 0, limit)
@@ -141,7 +158,7 @@ pub(crate) fn look_on(
     }
 }
 
-/// The points of `n` turns of a body.
+/// The points of `n` turns of a body, which are looked at once.
 #[cycle(look)]
 pub(crate) fn look_turns(
     program: &Program,
@@ -154,22 +171,29 @@ pub(crate) fn look_turns(
     requires { loops ≤ most_loops }
     ensures { (f : ℕ) → result ≡ peek_of (steps (repeated n (points_of_all program.now calls loops f statements.now))) limit }
 {
-    let mut local = 0;
-    let mut turns = n;
-    while turns > 0 {
-        let seen = look_on(program, calls, loops, statements, 0, limit - local);
-        local += seen.local;
-        if !seen.is_over() {
-            return Peek {
-                local,
-                then: seen.then,
-            };
-        }
-        turns -= 1;
+    if n == 0 {
+        return Peek {
+            local: 0,
+            then: Then::Over,
+        };
     }
-    Peek {
-        local,
-        then: Then::Over,
+    let once = look_on(program, calls, loops, statements, 0, limit);
+    if !once.is_over() {
+        return once;
+    }
+    look_times(once.local, n, limit)
+}
+
+/// `n` times so many local points.
+fn look_times(once: u64, n: u32, limit: u64) -> Peek
+    ensures { result ≡ peek_of (replicate (once * n) None) limit }
+{
+    match once.checked_mul(n as u64) {
+        Some(all) => look_local(all, limit),
+        None => Peek {
+            local: limit,
+            then: Then::Local,
+        },
     }
 }
 

@@ -1,15 +1,15 @@
 use Rattle.std.proofs.Common.{◌≤◌, ◌-◌, refl, arith}
-use Rattle.gp_stack.proofs.Looking.{at_end, at_work, at_labels, at_shared, at_no_loop, at_loop, at_no_call, at_no_function, at_call, seen_few, seen_on, seen_stop, seen_end, turn_few, turn_on, turn_stop}
+use Rattle.gp_stack.proofs.Looking.{at_end, at_work, at_labels, at_shared, at_no_loop, at_loop, at_no_call, at_no_function, at_call, seen_few, seen_on, seen_stop, seen_end, turns_none, turns_stop, turns_times, at_local_call}
 use Rattle.gp_stack.proofs.peek.+look.Goals as goal
 
 pub look_at-returns-in-End : goal.look_at-returns-in-End
 look_at-returns-in-End t c = at_end c.args.program.now c.args.calls c.args.loops c.args.statements.now c.args.at c.args.limit _ c.in-End.ensures.ahead
 
 pub look_at-returns-in-Work : goal.look_at-returns-in-Work
-look_at-returns-in-Work t c = at_work c.args.program.now c.args.calls c.args.loops c.args.statements.now c.args.at c.args.limit c.in-Work.n c.look_work.result c.in-Work.ensures.ahead c.look_work.ensures.finds
+look_at-returns-in-Work t c = at_work c.args.program.now c.args.calls c.args.loops c.args.statements.now c.args.at c.args.limit c.in-Work.n c.look_local.result c.in-Work.ensures.ahead c.look_local.ensures.finds
 
 pub look_at-returns-in-Labels : goal.look_at-returns-in-Labels
-look_at-returns-in-Labels t c = at_labels c.args.program.now c.args.calls c.args.loops c.args.statements.now c.args.at c.args.limit c.in-Labels.field-0 c.look_work-in-Labels.result c.in-Labels.ensures.ahead c.look_work-in-Labels.ensures.finds
+look_at-returns-in-Labels t c = at_labels c.args.program.now c.args.calls c.args.loops c.args.statements.now c.args.at c.args.limit c.in-Labels.field-0 c.look_local-in-Labels.result c.in-Labels.ensures.ahead c.look_local-in-Labels.ensures.finds
 
 pub look_at-returns-in-Shared : goal.look_at-returns-in-Shared
 look_at-returns-in-Shared t c = at_shared c.args.program.now c.args.calls c.args.loops c.args.statements.now c.args.at c.args.limit c.in-Shared.operation c.in-Shared.ensures.ahead
@@ -26,8 +26,11 @@ look_at-returns-then-calls-eq0 t c = at_no_call c.args.program.now c.args.calls 
 pub look_at-returns-then-h-len : goal.look_at-returns-then-h-len
 look_at-returns-then-h-len t c = at_no_function c.args.program.now c.args.calls c.args.loops c.args.statements.now c.args.at c.args.limit c.in-Call.h c.in-Call.ensures.ahead (rw (← c.parts.ensures.parts, ← c.len.ensures) c.if-h-len.true)
 
-pub look_at-returns-else-h-len : goal.look_at-returns-else-h-len
-look_at-returns-else-h-len t c = at_call c.args.program.now c.args.calls c.args.loops c.args.statements.now c.args.at c.args.limit c.in-Call.h c.function_body-called.result.now c.look_on.result c.in-Call.ensures.ahead (omega arith)
+pub look_at-returns-in-Some : goal.look_at-returns-in-Some
+look_at-returns-in-Some t c = at_local_call c.args.program.now c.args.calls c.args.loops c.args.statements.now c.args.at c.args.limit c.in-Call.h c.in-Some.n c.look_local-in-Some.result c.in-Call.ensures.ahead c.in-Some.ensures c.look_local-in-Some.ensures.finds
+
+pub look_at-returns-in_default : goal.look_at-returns-in_default
+look_at-returns-in_default t c = at_call c.args.program.now c.args.calls c.args.loops c.args.statements.now c.args.at c.args.limit c.in-Call.h c.function_body-called.result.now c.look_on.result c.in-Call.ensures.ahead (omega arith)
     (rw (c.function_body-called.ensures, c.parts-in-Call.ensures.parts) refl) c.look_on.ensures
 
 pub look_on-overflow_add-local : goal.look_on-overflow_add-local
@@ -49,18 +52,11 @@ look_on-loop-at-preserved t c = record {
 pub look_on-returns : goal.look_on-returns
 look_on-returns t c = seen_end c.args.program.now c.args.calls c.args.loops c.args.statements.now c.args.from c.loop-at.at c.args.limit c.loop-at.local (omega arith) c.loop-at.invariant.sees
 
-pub look_turns-overflow_add-local : goal.look_turns-overflow_add-local
-look_turns-overflow_add-local t c = let h : c.look_on-seen.result.local ≤ c.args.limit - c.loop-turns.local = turn_few c.args.program.now c.args.calls c.args.loops c.args.statements.now c.args.limit c.loop-turns.local c.look_on-seen.result
-    c.look_on-seen.ensures in omega (arith, c.loop-turns.invariant.few)
+pub look_turns-returns : goal.look_turns-returns
+look_turns-returns t c f = turns_times c.args.program.now c.args.calls c.args.loops c.args.n c.args.limit f c.args.statements.now c.look_on-once.result c.look_times.result (c.look_on-once.ensures f) c.if-not-is_over.ensures.over c.look_times.ensures
 
 pub look_turns-returns-then-not-is_over : goal.look_turns-returns-then-not-is_over
-look_turns-returns-then-not-is_over t c = turn_stop c.args.program.now c.args.calls c.args.loops c.args.statements.now c.args.n c.loop-turns.turns c.args.limit c.loop-turns.local c.look_on-seen.result (omega arith) c.look_on-seen.ensures
-    c.loop-turns.invariant.sees c.if-not-is_over.ensures.more
+look_turns-returns-then-not-is_over t c f = turns_stop c.args.program.now c.args.calls c.args.loops c.args.n c.args.limit f c.args.statements.now c.look_on-once.result c.if-n-eq0.false (c.look_on-once.ensures f) c.if-not-is_over.ensures.more
 
-pub look_turns-loop-turns-preserved : goal.look_turns-loop-turns-preserved
-look_turns-loop-turns-preserved t c = record {
-  few = (let h : c.look_on-seen.result.local ≤ c.args.limit - c.loop-turns.local = turn_few c.args.program.now c.args.calls c.args.loops c.args.statements.now c.args.limit c.loop-turns.local c.look_on-seen.result c.look_on-seen.ensures in
-      omega (arith, c.loop-turns.invariant.few));
-  sees = turn_on c.args.program.now c.args.calls c.args.loops c.args.statements.now c.args.n c.loop-turns.turns c.args.limit c.loop-turns.local c.look_on-seen.result (omega arith) c.look_on-seen.ensures c.loop-turns.invariant.sees
-      c.if-not-is_over.ensures.over;
-}
+pub look_turns-returns-then-n-eq0 : goal.look_turns-returns-then-n-eq0
+look_turns-returns-then-n-eq0 t c f = turns_none c.args.program.now c.args.calls c.args.loops c.args.n c.args.limit f c.args.statements.now c.if-n-eq0.true

@@ -1,5 +1,4 @@
 use Rattle.std.proofs.Common.{◌≤◌, ◌-◌, ◌+◌, ◌*◌, ℕ, length, drop}
-use Rattle.gp_isa.specs.Trace.{repeated}
 use Rattle.gp_stack.specs.kept.Looks.{steps, points_of_all}
 use Rattle.gp_stack.proofs.Peeks.{Sees}
 use Rattle.gp_stack.proofs.peek.+look.Given as goal
@@ -21,12 +20,3 @@ invariant-look_on-loop-at l = record {
 
 abbrev pub decreases-look_on-loop-at : goal.decreases-look_on-loop-at
 decreases-look_on-loop-at l = length l.statements - l.at
-
-abbrev pub invariant-look_turns-loop-turns : goal.invariant-look_turns-loop-turns
-invariant-look_turns-loop-turns l = record {
-  few : l.local ≤ l.limit;
-  sees : (f : ℕ) → Sees (steps (repeated l.n (points_of_all l.program l.calls l.loops f l.statements))) l.limit l.local (steps (repeated l.turns (points_of_all l.program l.calls l.loops f l.statements)));
-}
-
-abbrev pub decreases-look_turns-loop-turns : goal.decreases-look_turns-loop-turns
-decreases-look_turns-loop-turns l = l.turns

@@ -1,5 +1,5 @@
 use Rattle.gp_stack.proofs.Peeks.{work_more, work_all}
-use Rattle.gp_stack.proofs.peek.look_work.Goals as goal
+use Rattle.gp_stack.proofs.peek.look_local.Goals as goal
 
 pub returns-then-limit-n-clause-finds : goal.returns-then-limit-n-clause-finds
 returns-then-limit-n-clause-finds c = work_more c.args.n c.args.limit c.if-limit-n.true
