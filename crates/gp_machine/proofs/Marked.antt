@@ -1,14 +1,14 @@
 -- Counts and marks of a list after one of its places is changed, or one is added.
-use Rattle.std.proofs.Common.{◌≡◌, ◌⊎◌, ℕ, ◌+◌, ◌<◌, ◌≤◌, Bool, false, cond, List, [], ◌∷◌, ◌++◌, length, get_or, set, count_by, Some, None, position, refl, sym, ap, ◌∙◌, subst, inl, inr, arith, true≢false, length-set}
+use Rattle.std.proofs.Common.{◌≡◌, ◌⊎◌, ℕ, ◌+◌, ◌<◌, ◌≤◌, Bool, false, not, ◌&&◌, nat_lt, cond, List, [], ◌∷◌, ◌++◌, length, get_or, set, count_by, Some, None, position, refl, sym, ap, ◌∙◌, subst, inl, inr, arith, true≢false, length-set}
 use Rattle.std.proofs.Common.{get_or-set_same, get_or-set_other}
 use Rattle.std.specs.List.{position_or_len}
 use Rattle.std.proofs.lemmas.Bool.{cases_eq, cases_lt, lt-ltb, le-ltb}
 use Rattle.std.proofs.lemmas.List.{get_or_past, get_or_push, get_or_append_left, length_push}
 use Rattle.std.proofs.lemmas.List.Sums.{sum_by-set, sum_by_push, position_or_len_is, fails_before_first, passes_at_first}
 use Rattle.gp_journal.specs.declared.goroutine.Goroutine.{Goroutine}
-use Rattle.gp_journal.specs.State.{nobody}
-use Rattle.gp_machine.specs.kept.Crowd.{one_if}
-use Rattle.gp_journal.proofs.Lemmas.{replaced_within}
+use Rattle.gp_journal.specs.State.{nobody, is_runnable, is_running, is_dead, is_live, is_behind}
+use Rattle.gp_machine.specs.kept.Crowd.{one_if, is_settled, AreCounted}
+use Rattle.gp_journal.proofs.Lemmas.{replaced_within, changed}
 
 pub count_set : {X : Type 0} (p : X → Bool) (d : X) (xs : List X) (i : ℕ) (y : X) → i < length xs → count_by p (set xs i y) + one_if (p (get_or xs i d)) ≡ count_by p xs + one_if (p y)
 count_set p d xs i y within = sum_by-set (λ x. one_if (p x)) xs i y d within
@@ -115,4 +115,29 @@ marked_push p cells all marks marks' g new is marked last room is_is marks_are =
     record {
       long = ap length e ∙ length-set marks (length all) (p new) ∙ long;
       same = λ k. ap (λ l. get_or l k false) e ∙ marks_push p nobody marks all new (omega arith) marked.same k;
+    }
+
+-- a number stays where one is changed that passes the test as before
+count_same : (p : Goroutine → Bool) (all : List Goroutine) (count g : ℕ) (new : Goroutine) → g < length all → count ≡ count_by p all → p new ≡ p (get_or all g nobody) → count ≡ count_by p (set all g new)
+count_same p all count g new within counted same = let a = count_set p nobody all g new within in let b = ap one_if same in omega arith
+
+-- Numbers and marks stay where one keeps its status and its epoch.
+pub counted_same : (cells room : ℕ) (all : List Goroutine) (active live running runnable : ℕ) (recorded unrecorded : List Bool) (g : ℕ) (new : Goroutine) →
+    AreCounted cells room all active live running runnable recorded unrecorded → g < length all → new.status ≡ (get_or all g nobody).status → new.epoch ≡ (get_or all g nobody).epoch →
+    AreCounted cells room (set all g new) active live running runnable recorded unrecorded
+counted_same cells room all active live running runnable recorded unrecorded g new it within status epoch =
+    let lives : is_live new ≡ is_live (get_or all g nobody) = ap (λ t. not (is_dead t)) status in
+    let is_behind_too : is_behind active new ≡ is_behind active (get_or all g nobody) = ap (λ b. b && nat_lt new.epoch active) lives ∙ ap (λ n. is_live (get_or all g nobody) && nat_lt n active) epoch in
+    record {
+      reserved = it.reserved;
+      few = it.few;
+      born = let bound = it.born in omega (arith, length-set all g new);
+      recorded_marks = it.recorded_marks;
+      unrecorded_marks = it.unrecorded_marks;
+      live_count = count_same is_live all live g new within it.live_count lives;
+      running_count = count_same (λ y. is_running y.status) all running g new within it.running_count (ap is_running status);
+      runnable_count = count_same (λ y. is_runnable y.status) all runnable g new within it.runnable_count (ap is_runnable status);
+      behind = changed (λ k y. get_or unrecorded k false ≡ is_behind active y) nobody all g new (it.behind g ∙ sym is_behind_too) it.behind;
+      settled = changed (λ k y. get_or recorded k false ≡ is_settled active y) nobody all g new
+          (it.settled g ∙ sym (ap (λ b. b && not (is_behind active new)) lives ∙ ap (λ b. is_live (get_or all g nobody) && not b) is_behind_too)) it.settled;
     }

@@ -1,5 +1,5 @@
--- What is asked and told of the goroutine that a worker runs, after a journal of a program's run.
-use Rattle.std.specs.Prelude.{◌≡◌, ℕ, List, Some}
+-- What is asked and told of workers and of the goroutines that they run, after a journal of a program's run.
+use Rattle.std.specs.Prelude.{◌≡◌, ◌<◌, ℕ, Bool, true, is_some, length, take, count_by, List, Some}
 use Rattle.gp_isa.specs.declared.parts.Parts.{Parts}
 use Rattle.gp_stack.specs.Peek.{operation_of}
 use Rattle.gp_stack.specs.declared.peek.Peek.{Peek}
@@ -7,6 +7,7 @@ use Rattle.gp_stack.specs.declared.statement.Operation.{Operation}
 use Rattle.gp_journal.specs.declared.answer.Foreseen.{Foreseen}
 use Rattle.gp_journal.specs.declared.entry.Entry.{Entry}
 use Rattle.gp_journal.specs.declared.entry.Entry.TheVariants.{Op}
+use Rattle.gp_journal.specs.declared.goroutine.Worker.{Worker}
 use Rattle.gp_journal.specs.declared.settings.Settings.{Settings}
 use Rattle.gp_journal.specs.State.{State, code_of, worker}
 use Rattle.gp_journal.specs.Due.{due, next_instruction}
@@ -14,6 +15,20 @@ use Rattle.gp_journal.specs.May.{IsDue}
 use Rattle.gp_journal.specs.Answer.{foreseen}
 use Rattle.gp_journal.specs.Run.{state_of}
 use Rattle.gp_journal.specs.Shown.{IsPeekAt}
+
+-- whether a worker runs a goroutine
+abbrev pub is_busy : Worker → Bool
+is_busy w = is_some w.runs
+
+-- how many workers do
+abbrev pub busy : State → ℕ
+busy state = count_by is_busy state.workers
+
+-- A worker stands at a place, counted from 0, among those that run a goroutine.
+pub record IsBusyAt (state : State) (place w : ℕ) : Type 0 where
+  pub within : w < length state.workers
+  pub runs : is_busy (worker state w) ≡ true
+  pub before : count_by is_busy (take w state.workers) ≡ place
 
 -- something holds of the goroutine that a worker runs, if it runs one
 abbrev pub OfRunner : State → ℕ → (ℕ → Type 0) → Type 0

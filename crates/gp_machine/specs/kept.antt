@@ -2,5 +2,6 @@
 pub mod IdSet
 pub mod Ring
 pub mod Crowd
+pub mod Workers
 pub mod Present
 pub mod Made

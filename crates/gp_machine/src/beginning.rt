@@ -6,8 +6,9 @@ ghost use Rattle.gp_journal.specs.State.{code_of, first, main_goroutine};
 ghost use Rattle.gp_machine.specs.kept.Present.{FitsPlan};
 
 use crate::goroutines::Goroutines;
-use crate::present::{Plan, Present, RESTING};
+use crate::present::{Plan, Present};
 use crate::queue::Queue;
+use crate::workers::Workers;
 use gp_isa::limits::INSTRUCTIONS_PER_SECOND;
 use gp_isa::{Memory, Program};
 use gp_journal::{Goroutine, Run, Settings, Status};
@@ -83,7 +84,7 @@ impl<R: Run> Present<R> {
             goroutines: Goroutines::new(alloc, cells, main_goroutine(program))?,
             queue: first_queue(alloc, cells)?,
             waits: WaitLists::new(alloc, program, cells)?,
-            workers: vec![in alloc; RESTING; settings.workers as usize]?,
+            workers: Workers::new(alloc, settings.workers)?,
             clock: 0,
             served: 0,
             last_epoch: 0,

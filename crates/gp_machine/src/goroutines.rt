@@ -1,8 +1,9 @@
-ghost use Rattle.std.specs.Prelude.{◌≡◌, ◌<◌, ◌≤◌, ◌++◌, ◌∷◌, ◌+◌, ◌^◌, [], ℕ, true, IsTrue, length, get_or, set, count_by, IfOk, nat_lt};
+ghost use Rattle.std.specs.Prelude.{◌≡◌, ◌<◌, ◌≤◌, ◌++◌, ◌∷◌, ◌+◌, ◌^◌, [], ℕ, true, false, IsTrue, length, get_or, set, count_by, IfOk, nat_lt};
 ghost use Rattle.gp_isa.specs.Limits.{most_cells};
 ghost use Rattle.gp_journal.specs.State.{nobody, is_runnable, is_running, is_live, is_behind};
 ghost use Rattle.gp_journal.specs.Standing.{first_behind};
-ghost use Rattle.gp_machine.specs.kept.Crowd.{is_settled, one_if};
+ghost use Rattle.gp_journal.specs.Effect.{unmarked};
+ghost use Rattle.gp_machine.specs.kept.Crowd.{is_settled, one_if, further};
 
 use crate::id_set::IdSet;
 use gp_isa::Memory;
@@ -84,7 +85,7 @@ fn is_settled(epoch: u32, g: Goroutine) -> bool
 }
 
 // A number of some kind of goroutines, once one that was of it or wasn't is of it or isn't.
-fn moved(count: u32, was: bool, is: bool) -> u32
+pub(crate) fn moved(count: u32, was: bool, is: bool) -> u32
     requires was { IsTrue was → 1 ≤ count }
     requires few { count < 2 ^ 31 }
     ensures { result + one_if was ≡ count + one_if is }
@@ -101,6 +102,30 @@ fn mark(ids: &mut IdSet, g: u32, is: bool)
     } else {
         ids.remove(g);
     }
+}
+
+// Marks goroutine g, which was another one before, where it is live now and wasn't, or the other way round, or its epoch
+// is another.
+fn mark_again(
+    recorded: &mut IdSet,
+    unrecorded: &mut IdSet,
+    active: u32,
+    g: u32,
+    old: Goroutine,
+    new: Goroutine,
+)
+    requires recorded { g < length recorded.old }
+    requires unrecorded { g < length unrecorded.old }
+    requires was_settled { get_or recorded.old g false ≡ is_settled active old }
+    requires was_behind { get_or unrecorded.old g false ≡ is_behind active old }
+    ensures settled { recorded.new ≡ set recorded.old g (is_settled active new) }
+    ensures behind { unrecorded.new ≡ set unrecorded.old g (is_behind active new) }
+{
+    if is_live(old) == is_live(new) && old.epoch == new.epoch {
+        return;
+    }
+    mark(unrecorded, g, is_behind(active, new));
+    mark(recorded, g, is_settled(active, new));
 }
 
 impl Goroutines {
@@ -189,9 +214,34 @@ impl Goroutines {
         self.live = moved(self.live, is_live(old), is_live(new));
         self.running = moved(self.running, is_running(old), is_running(new));
         self.runnable = moved(self.runnable, is_runnable(old), is_runnable(new));
-        mark(&mut self.unrecorded, g, is_behind(self.active, new));
-        mark(&mut self.recorded, g, is_settled(self.active, new));
+        mark_again(
+            &mut self.recorded,
+            &mut self.unrecorded,
+            self.active,
+            g,
+            old,
+            new,
+        );
         self.all[g as usize] = new;
+    }
+
+    /// One of them passes n points, and goes on.
+    pub fn advance(&mut self, g: u32, n: u64)
+        requires within { g < length self.old.all }
+        requires room { (get_or self.old.all g nobody).count + n < 2 ^ 64 }
+        ensures { self.new ≡ record self.old { all = set self.old.all g (further n (get_or self.old.all g nobody)) } }
+    {
+        let it = &mut self.all[g as usize];
+        it.count += n;
+    }
+
+    /// One of them loses its granted mark.
+    pub fn unmark(&mut self, g: u32)
+        requires { g < length self.old.all }
+        ensures { self.new ≡ record self.old { all = set self.old.all g (unmarked (get_or self.old.all g nobody)) } }
+    {
+        let it = &mut self.all[g as usize];
+        it.granted = false;
     }
 
     /// One more is born.

@@ -38,6 +38,7 @@ mod machine;
 mod operations;
 mod present;
 mod queue;
+mod workers;
 
 pub use gp_journal::{
     Applied, Counts, Ended, Entry, Foreseen, Goroutine, Journal, NO_CELL, Picks, Refusals, Request,

@@ -8,7 +8,7 @@ ghost use Rattle.gp_journal.specs.May.{May};
 ghost use Rattle.gp_journal.specs.Run.{IsLegal, state_of};
 ghost use Rattle.gp_journal.specs.Answer.{applied};
 ghost use Rattle.gp_journal.specs.Standing.{head_of, first_behind};
-ghost use Rattle.gp_machine.specs.OnWorker.{IsPeekOn, IsDueOn, OpIsDueOn, IsNextOn, IsForeseenOn};
+ghost use Rattle.gp_machine.specs.OnWorker.{busy, IsBusyAt, IsPeekOn, IsDueOn, OpIsDueOn, IsNextOn, IsForeseenOn};
 ghost use Rattle.gp_journal.specs.Shown.{IsGiven};
 ghost use Rattle.gp_journal.specs.Actors.{actor_of, made_by};
 ghost use Rattle.gp_journal.specs.NumberLaws.{most_entries};
@@ -247,6 +247,21 @@ impl<R: Run> Machine<R> {
         ensures { result ≡ (worker (state_of R.program R.settings self.now) w).runs }
     {
         self.present.worker(w).runs
+    }
+
+    /// How many workers run a goroutine.
+    pub fn busy(&self) -> u32
+        ensures { result ≡ busy (state_of R.program R.settings self.now) }
+    {
+        self.present.busy()
+    }
+
+    /// The worker at a place, counted from 0, among those that run a goroutine.
+    pub fn busy_at(&self, place: u32) -> u32
+        requires { place < busy (state_of R.program R.settings self.now) }
+        ensures { IsBusyAt (state_of R.program R.settings self.now) place result }
+    {
+        self.present.busy_at(place)
     }
 
     /// The first goroutine that has still to be recorded in the active profile.

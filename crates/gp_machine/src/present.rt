@@ -8,11 +8,13 @@ ghost use Rattle.gp_journal.specs.Effect.{is_over_after, with_goroutine, with_wo
 ghost use Rattle.gp_journal.specs.Standing.{first_behind};
 ghost use Rattle.gp_journal.specs.Standing.{head_of, times};
 ghost use Rattle.gp_journal.specs.Reached.{Runs};
+ghost use Rattle.gp_machine.specs.OnWorker.{busy, IsBusyAt};
 ghost use Rattle.gp_machine.specs.kept.Present.{CanCount, CanWake};
 ghost use Rattle.gp_journal.specs.declared.goroutine.Status.TheVariants.{Runnable, Running, Dead as DeadStatus};
 
 use crate::goroutines::Goroutines;
 use crate::queue::Queue;
+use crate::workers::Workers;
 use gp_journal::{Goroutine, Request, Run, Status, Worker};
 use gp_sync::WaitLists;
 use std::marker::{Model, PhantomData};
@@ -34,7 +36,7 @@ pub struct Present<R: Run> {
     pub(crate) goroutines: Goroutines,
     pub(crate) queue: Queue,
     pub(crate) waits: WaitLists,
-    pub(crate) workers: Vec<Worker>,
+    pub(crate) workers: Workers,
     pub(crate) clock: u64,
     pub(crate) served: usize,
     pub(crate) last_epoch: u32,
@@ -55,7 +57,7 @@ impl<R: Run> Model for Present<R> {
       queue = p.queue.items;
       channels = p.waits.channels;
       mutexes = p.waits.mutexes;
-      workers = p.workers.items;
+      workers = p.workers;
       clock = p.clock;
       requests = drop p.served p.plan.at.items;
       active = p.goroutines.active;
@@ -68,42 +70,6 @@ impl<R: Run> Model for Present<R> {
         × HasCells R.settings p.goroutines.cells p.queue.cells p.waits.cells };
 }
 
-pub(crate) const RESTING: Worker = Worker {
-    runs: None,
-    instructions: 0,
-    slice: 0,
-    tick: false,
-};
-
-// A goroutine that has passed n points, and has died or not.
-fn passed(g: Goroutine, n: u64, died: bool) -> Goroutine
-    requires { g.count + n < 2 ^ 64 }
-    ensures { result ≡ record g { count = g.count + n; status = if died then DeadStatus else g.status } }
-{
-    Goroutine {
-        count: g.count + n,
-        status: if died { Status::Dead } else { g.status },
-        ..g
-    }
-}
-
-// A worker that has run n instructions more, its goroutine having died or not.
-fn worked<R: Run>(between: u64, w: Worker, n: u64, died: bool) -> Worker
-    requires period { between ≡ period R.settings }
-    requires some { 0 < between }
-    requires instructions { w.instructions + n < 2 ^ 64 }
-    requires slice { w.slice + n < 2 ^ 64 }
-    ensures { result ≡ effect.worked R.settings n died w }
-{
-    let instructions = w.instructions + n;
-    Worker {
-        runs: if died { None } else { w.runs },
-        instructions,
-        slice: w.slice + n,
-        tick: w.tick || (!died && instructions % between == 0),
-    }
-}
-
 impl<R: Run> Present<R> {
     pub fn goroutine(&self, g: u32) -> Goroutine
         ensures { result ≡ goroutine self.now g }
@@ -114,7 +80,7 @@ impl<R: Run> Present<R> {
     pub fn worker(&self, w: u32) -> Worker
         ensures { result ≡ worker self.now w }
     {
-        self.workers.get(w as usize).copied().unwrap_or(RESTING)
+        self.workers.get(w)
     }
 
     /// The runnable goroutine at the head of the queue.
@@ -146,6 +112,21 @@ impl<R: Run> Present<R> {
         ensures { result ≡ running self.now }
     {
         self.goroutines.running()
+    }
+
+    /// How many workers run a goroutine.
+    pub fn busy(&self) -> u32
+        ensures { result ≡ busy self.now }
+    {
+        self.workers.busy()
+    }
+
+    /// The worker at a place among those that do.
+    pub fn busy_at(&self, place: u32) -> u32
+        requires { place < busy self.now }
+        ensures { IsBusyAt self.now place result }
+    {
+        self.workers.busy_at(place)
     }
 
     pub fn active(&self) -> u32
@@ -185,11 +166,20 @@ impl<R: Run> Present<R> {
         self.goroutines.set(g, new);
     }
 
-    fn put_worker(&mut self, w: u32, new: Worker)
+    // w begins to run g.
+    fn start_worker(&mut self, w: u32, g: u32)
         requires { w < length self.old.workers }
-        ensures { self.new ≡ with_worker w new self.old }
+        ensures { self.new ≡ with_worker w (effect.started g (worker self.old w)) self.old }
     {
-        self.workers[w as usize] = new;
+        self.workers.starts(w, g);
+    }
+
+    // w leaves its goroutine.
+    fn leave_worker(&mut self, w: u32)
+        requires { w < length self.old.workers }
+        ensures { self.new ≡ with_worker w (effect.left (worker self.old w)) self.old }
+    {
+        self.workers.leaves(w);
     }
 
     fn join_queue(&mut self, g: u32)
@@ -232,6 +222,38 @@ impl<R: Run> Present<R> {
         self.length_of(g.start) <= g.count + n
     }
 
+    // g has passed n points more, and has died or not.
+    fn moves_on(&mut self, g: u32, n: u64, died: bool)
+        requires born { g < births self.old }
+        requires room { (goroutine self.old g).count + n < 2 ^ 64 }
+        requires died { died ≡ is_over_after (code_of R.program) n (goroutine self.old g) }
+        ensures { self.new ≡ with_goroutine g (effect.passed (code_of R.program) n (goroutine self.old g)) self.old }
+    {
+        if died {
+            let goroutine = self.goroutine(g);
+            self.put_goroutine(
+                g,
+                Goroutine {
+                    count: goroutine.count + n,
+                    status: Status::Dead,
+                    ..goroutine
+                },
+            );
+        } else {
+            self.goroutines.advance(g, n);
+        }
+    }
+
+    // w has run n instructions more, its goroutine having died or not.
+    fn works(&mut self, w: u32, n: u64, died: bool)
+        requires worker { w < length self.old.workers }
+        requires instructions { (worker self.old w).instructions + n < 2 ^ 64 }
+        requires slice { (worker self.old w).slice + n < 2 ^ 64 }
+        ensures { self.new ≡ with_worker w (effect.worked R.settings n died (worker self.old w)) self.old }
+    {
+        self.workers.works(self.plan.period, w, n, died);
+    }
+
     /// w begins to run g.
     pub fn starts(&mut self, w: u32, g: u32)
         requires worker { w < length self.old.workers }
@@ -241,7 +263,6 @@ impl<R: Run> Present<R> {
         ensures { self.new ≡ effect.starts w g self.old }
     {
         let goroutine = self.goroutine(g);
-        let worker = self.worker(w);
         self.put_goroutine(
             g,
             Goroutine {
@@ -249,14 +270,7 @@ impl<R: Run> Present<R> {
                 ..goroutine
             },
         );
-        self.put_worker(
-            w,
-            Worker {
-                runs: Some(g),
-                slice: 0,
-                ..worker
-            },
-        );
+        self.start_worker(w, g);
         self.leave_queue(g);
     }
 
@@ -266,15 +280,8 @@ impl<R: Run> Present<R> {
         requires born { g < births self.old }
         ensures { self.new ≡ effect.leaves w g new self.old }
     {
-        let worker = self.worker(w);
         self.put_goroutine(g, new);
-        self.put_worker(
-            w,
-            Worker {
-                runs: None,
-                ..worker
-            },
-        );
+        self.leave_worker(w);
     }
 
     /// g is put back: it leaves w, and goes to the tail of the queue.
@@ -305,12 +312,9 @@ impl<R: Run> Present<R> {
         ensures state { self.new ≡ effect.passes (code_of R.program) R.settings w g n self.old }
         ensures died { result ≡ is_over_after (code_of R.program) n (goroutine self.old g) }
     {
-        let goroutine = self.goroutine(g);
-        let worker = self.worker(w);
-        let died = self.ends_after(goroutine, n);
-        let between = self.plan.period;
-        self.put_goroutine(g, passed(goroutine, n, died));
-        self.put_worker(w, worked::<R>(between, worker, n, died));
+        let died = self.ends_after(self.goroutine(g), n);
+        self.moves_on(g, n, died);
+        self.works(w, n, died);
         self.clock += n;
         died
     }
@@ -401,14 +405,7 @@ impl<R: Run> Present<R> {
         requires { g < births self.old }
         ensures { self.new ≡ with_goroutine g (effect.unmarked (goroutine self.old g)) self.old }
     {
-        let goroutine = self.goroutine(g);
-        self.put_goroutine(
-            g,
-            Goroutine {
-                granted: false,
-                ..goroutine
-            },
-        );
+        self.goroutines.unmark(g);
     }
 
     /// w's due tick is cleared.
@@ -416,14 +413,7 @@ impl<R: Run> Present<R> {
         requires { w < length self.old.workers }
         ensures { self.new ≡ with_worker w (effect.ticked (worker self.old w)) self.old }
     {
-        let worker = self.worker(w);
-        self.put_worker(
-            w,
-            Worker {
-                tick: false,
-                ..worker
-            },
-        );
+        self.workers.ticks(w);
     }
 
     /// The next request is served.

@@ -1,20 +1,24 @@
 -- One of some actions is chosen.
-use Rattle.std.proofs.Common.{◌≡◌, ◌≤◌, ◌+◌, ◌%◌, ℕ, List, [], ◌∷◌, length, get_or, Some, None, refl, sym, ap, arith}
+use Rattle.std.proofs.Common.{◌≡◌, ◌<◌, ◌≤◌, ◌+◌, ◌%◌, ℕ, Bool, true, false, ◌==◌, List, [], ◌∷◌, length, get_or, Some, None, refl, sym, ap, ◌∙◌, subst, arith, if◌then◌else◌}
+use Rattle.std.proofs.lemmas.Bool.{eqb-true, eqb-false}
 use Rattle.std.proofs.lemmas.List.{get_or_read}
 use Rattle.gp_journal.specs.declared.entry.Entry.{Entry}
 use Rattle.gp_journal.specs.declared.settings.Settings.{Settings}
+use Rattle.gp_sim.specs.declared.numbers.Draw.{Draw}
+use Rattle.gp_sim.specs.declared.numbers.Turn.{Turn}
 use Rattle.gp_sim.specs.Choice.{number, chosen}
+use Rattle.gp_sim.specs.kept.Numbers.{drawn_of}
 
-pub none_there : (settings : Settings) (taken : ℕ) (entries : List Entry) → length entries ≡ 0 → chosen settings taken entries ≡ None
+none_there : (settings : Settings) (taken : ℕ) (entries : List Entry) → length entries ≡ 0 → chosen settings taken entries ≡ None
 none_there settings taken [] e = refl
 none_there settings taken (one ∷ more) e = absurd (omega arith)
 
-pub one_there : (settings : Settings) (taken : ℕ) (entries : List Entry) (entry : Entry) → length entries ≡ 1 → entry ≡ get_or entries 0 entry → chosen settings taken entries ≡ Some (record { entry = entry; taken = taken })
+one_there : (settings : Settings) (taken : ℕ) (entries : List Entry) (entry : Entry) → length entries ≡ 1 → entry ≡ get_or entries 0 entry → chosen settings taken entries ≡ Some (record { entry = entry; taken = taken })
 one_there settings taken [] entry e is = absurd (omega arith)
 one_there settings taken (one ∷ []) entry e is = ap (λ (x : Entry). Some (record { entry = x; taken = taken })) (sym is)
 one_there settings taken (one ∷ other ∷ more) entry e is = absurd (omega arith)
 
-pub more_there : (settings : Settings) (taken : ℕ) (entries : List Entry) (entry : Entry) → 2 ≤ length entries → entry ≡ get_or entries (number settings taken % length entries) entry →
+more_there : (settings : Settings) (taken : ℕ) (entries : List Entry) (entry : Entry) → 2 ≤ length entries → entry ≡ get_or entries (number settings taken % length entries) entry →
     chosen settings taken entries ≡ Some (record { entry = entry; taken = taken + 1 })
 more_there settings taken [] entry e is = absurd (omega arith)
 more_there settings taken (one ∷ []) entry e is = absurd (omega arith)
@@ -22,3 +26,47 @@ more_there settings taken (one ∷ other ∷ more) entry e is =
     let among = one ∷ other ∷ more in
     ap (λ (x : Entry). Some (record { entry = x; taken = taken + 1 }))
     (sym (get_or_read among (number settings taken % length among) entry (omega arith) is one))
+
+draw_is : {a b : Draw} → Some a ≡ Some b → a ≡ b
+draw_is e = cc
+
+-- what is drawn, by the tests of how many there are
+by_tests : (settings : Settings) (taken among : ℕ) (P : Draw → Type 0) → ((among ≡ 1) → P (record { place = 0; taken = taken })) → (2 ≤ among → P (record { place = number settings taken % among; taken = taken + 1 })) →
+    (draw : Draw) → drawn_of settings taken among ≡ Some draw → P draw
+by_tests settings taken among P one more draw e = at (among == 0) refl (among == 1) refl e
+  where
+    at : (none : Bool) → (among == 0) ≡ none → (single : Bool) → (among == 1) ≡ single →
+        (if none then None else if single then Some (record { place = 0; taken = taken }) else Some (record { place = number settings taken % among; taken = taken + 1 })) ≡ Some draw → P draw
+    at true e0 single e1 e = absurd (cc)
+    at false e0 true e1 e = subst P (draw_is e) (one (eqb-true among 1 e1))
+    at false e0 false e1 e =
+        let apart0 : among ≡ 0 → ⊥ = eqb-false among 0 e0 in
+        let apart1 : among ≡ 1 → ⊥ = eqb-false among 1 e1 in
+        subst P (draw_is e) (more (omega arith))
+
+-- it is the place of one of them
+pub draw_within : (settings : Settings) (taken among : ℕ) (draw : Draw) → drawn_of settings taken among ≡ Some draw → draw.place < among
+draw_within settings taken among draw e = by_tests settings taken among (λ d. d.place < among) (λ one. omega arith) (λ many. omega arith) draw e
+
+-- and at most one number is taken
+pub draw_takes : (settings : Settings) (taken among : ℕ) (draw : Draw) → drawn_of settings taken among ≡ Some draw → (taken ≤ draw.taken) × (draw.taken ≤ taken + 1)
+draw_takes settings taken among draw e =
+    by_tests settings taken among (λ d. (taken ≤ d.taken) × (d.taken ≤ taken + 1)) (λ one. (omega arith, omega arith)) (λ many. (omega arith, omega arith)) draw e
+
+-- One of some entries is chosen by its place,
+pub chosen_at : (settings : Settings) (taken : ℕ) (entries : List Entry) (entry : Entry) (draw : Draw) → drawn_of settings taken (length entries) ≡ Some draw → entry ≡ get_or entries draw.place entry →
+    chosen settings taken entries ≡ Some (record { entry = entry; taken = draw.taken })
+chosen_at settings taken entries entry draw e =
+    by_tests settings taken (length entries) (λ d. entry ≡ get_or entries d.place entry → chosen settings taken entries ≡ Some (record { entry = entry; taken = d.taken }))
+    (λ one is. one_there settings taken entries entry one is)
+    (λ many is. more_there settings taken entries entry many is) draw e
+
+-- and none where none is drawn.
+pub none_chosen_of : (settings : Settings) (taken : ℕ) (entries : List Entry) → drawn_of settings taken (length entries) ≡ None → chosen settings taken entries ≡ None
+none_chosen_of settings taken entries e = none_there settings taken entries (at (length entries == 0) refl (length entries == 1) e)
+  where
+    at : (none : Bool) → (length entries == 0) ≡ none → (single : Bool) →
+        (if none then None else if single then Some (record { place = 0; taken = taken }) else Some (record { place = number settings taken % length entries; taken = taken + 1 })) ≡ None → length entries ≡ 0
+    at true e0 single e = eqb-true (length entries) 0 e0
+    at false e0 true e = absurd (cc)
+    at false e0 false e = absurd (cc)

@@ -1,5 +1,6 @@
 pub mod Generated
 pub mod Acting
+pub mod Places
 pub mod Choosing
 pub mod Enabled
 pub mod Complete

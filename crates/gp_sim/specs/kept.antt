@@ -3,3 +3,4 @@ pub mod Turns
 pub mod Bodies
 pub mod Simulation
 pub mod Numbers
+pub mod Acting

@@ -1,47 +1,116 @@
-ghost use Rattle.std.specs.Prelude.{◌≡◌, ◌<◌, ◌++◌, Some, IfOk, option_to_list};
+ghost use Rattle.std.specs.Prelude.{◌≡◌, ◌<◌, ◌≤◌, ◌+◌, ◌^◌, true, Some, None, is_some, IfSome, IfNone};
 ghost use Rattle.gp_journal.specs.Settings.{AreInRange};
 ghost use Rattle.gp_journal.specs.State.{code_of};
 ghost use Rattle.gp_journal.specs.Run.{state_of};
+ghost use Rattle.gp_journal.specs.Shown.{IsGiven};
 ghost use Rattle.gp_journal.specs.Bodies.{AreBodiesOf};
-ghost use Rattle.gp_sim.specs.Choice.{idle_action, worker_action, answers, profiler_action, actions};
+ghost use Rattle.gp_journal.specs.Standing.{head_of};
+ghost use Rattle.gp_sim.specs.Choice.{goes_on_with, worker_action, answers, profiler_action, actions, chosen};
+ghost use Rattle.gp_sim.specs.kept.Acting.{idle_head, able, IsAble, IsAbleAt};
 
 use crate::bodies::Bodies;
-use gp_isa::{Memory, Program, limits};
-use gp_machine::{Entry, Machine, Run, Settings};
+use crate::numbers::{Numbers, Turn};
+use gp_isa::{Program, limits};
+use gp_machine::{Entry, Machine, Run, Settings, SharedPoint};
 
-// What idle worker w would do.
-fn idle_action<R: Run>(machine: &Machine<R>, w: u32) -> Option<Entry>
-    ensures { result ≡ idle_action R.settings (state_of R.program R.settings machine.now) w }
+/// What an actor does: its entry, and where that is an Op, its goroutine's next point.
+#[derive(Clone, Copy, Debug)]
+pub(crate) struct Action {
+    pub(crate) entry: Entry,
+    pub(crate) point: Option<SharedPoint>,
+}
+
+/// A turn, and where its entry is an Op, its goroutine's next point.
+#[derive(Clone, Copy, Debug)]
+pub(crate) struct Step {
+    pub(crate) turn: Turn,
+    pub(crate) point: Option<SharedPoint>,
+}
+
+// Whom idle workers go on with, where they can act: all of them can, or none.
+fn idle_head<R: Run>(machine: &Machine<R>) -> Option<u32>
+    ensures { result ≡ idle_head R.settings (state_of R.program R.settings machine.now) }
 {
-    // (it has no effect, but tells that the journal is legal)
-    let _ = machine.journal();
     if machine.asked() || machine.over() {
         return None;
     }
-    let g = machine.head()?;
-    if machine.epoch(g) < machine.active() {
-        return Some(Entry::Record { actor: w, g });
-    }
-    Some(Entry::Start { w, g })
+    machine.head()
 }
 
-// What worker w would do.
+// What idle worker w does with the head of the queue.
+fn head_action<R: Run>(machine: &Machine<R>, w: u32, g: u32) -> Entry
+    requires { head_of (state_of R.program R.settings machine.now).queue ≡ Some g }
+    ensures entry { Some result ≡ goes_on_with (state_of R.program R.settings machine.now) w (Some g) }
+    ensures no_point { IsGiven (code_of R.program) (state_of R.program R.settings machine.now) result None }
+{
+    // (it has no effect, but tells that the journal is legal)
+    let _ = machine.journal();
+    if machine.epoch(g) < machine.active() {
+        return Entry::Record { actor: w, g };
+    }
+    Entry::Start { w, g }
+}
+
+// How many workers can act.
+fn able<R: Run>(machine: &Machine<R>, settings: &Settings, head: Option<u32>) -> u32
+    requires settings { settings.now ≡ R.settings }
+    requires range { AreInRange R.settings }
+    requires head { head ≡ idle_head R.settings (state_of R.program R.settings machine.now) }
+    ensures { result ≡ able R.settings (state_of R.program R.settings machine.now) }
+{
+    let _ = machine.journal();
+    match head {
+        Some(_) => settings.workers,
+        None => machine.busy(),
+    }
+}
+
+// The worker at a place among those that can act.
+fn able_at<R: Run>(machine: &Machine<R>, head: Option<u32>, place: u32) -> u32
+    requires range { AreInRange R.settings }
+    requires head { head ≡ idle_head R.settings (state_of R.program R.settings machine.now) }
+    requires there { place < able R.settings (state_of R.program R.settings machine.now) }
+    ensures { IsAbleAt R.settings (state_of R.program R.settings machine.now) place result }
+{
+    let _ = machine.journal();
+    match head {
+        Some(_) => place,
+        None => machine.busy_at(place),
+    }
+}
+
+// What worker w does, which can act.
 fn worker_action<R: Run>(
     machine: &Machine<R>,
     bodies: &Bodies<R>,
     program: &Program,
     w: u32,
-) -> Option<Entry>
+    head: Option<u32>,
+) -> Action
     requires program { program.now ≡ R.program }
     requires range { AreInRange R.settings }
     requires bodies { AreBodiesOf (state_of R.program R.settings machine.now) bodies.now }
-    requires worker { w < R.settings.workers }
-    ensures { result ≡ worker_action (code_of R.program) R.settings (state_of R.program R.settings machine.now) w }
+    requires head { head ≡ idle_head R.settings (state_of R.program R.settings machine.now) }
+    requires able { IsAble R.settings (state_of R.program R.settings machine.now) w }
+    ensures entry { worker_action (code_of R.program) R.settings (state_of R.program R.settings machine.now) w ≡ Some result.entry }
+    ensures point { IsGiven (code_of R.program) (state_of R.program R.settings machine.now) result.entry result.point }
 {
     let _ = machine.journal();
     match machine.runs(w) {
-        Some(g) => Some(machine.due(w, bodies.peek(program, g, limits::QUANTUM))),
-        None => idle_action(machine, w),
+        Some(g) => {
+            let peek = bodies.peek(program, g, limits::QUANTUM);
+            Action {
+                entry: machine.due(w, peek),
+                point: bodies.point(g, peek),
+            }
+        }
+        None => match head {
+            Some(g) => Action {
+                entry: head_action(machine, w, g),
+                point: None,
+            },
+            None => unreachable!(),
+        },
     }
 }
 
@@ -49,7 +118,8 @@ fn worker_action<R: Run>(
 fn answer<R: Run>(machine: &Machine<R>, settings: &Settings) -> Entry
     requires settings { settings.now ≡ R.settings }
     requires range { AreInRange settings.now }
-    ensures { result ≡ answers R.settings (state_of R.program R.settings machine.now) }
+    ensures entry { result ≡ answers R.settings (state_of R.program R.settings machine.now) }
+    ensures no_point { IsGiven (code_of R.program) (state_of R.program R.settings machine.now) result None }
 {
     let _ = machine.journal();
     let room = settings.room;
@@ -64,11 +134,19 @@ fn answer<R: Run>(machine: &Machine<R>, settings: &Settings) -> Entry
     }
 }
 
-// What the profiler would do.
+// Whether the profiler can act.
+fn profiler_acts<R: Run>(machine: &Machine<R>) -> bool
+    ensures { result ≡ is_some (profiler_action R.settings (state_of R.program R.settings machine.now)) }
+{
+    machine.active() > 0 || (machine.asked() && machine.running() == 0)
+}
+
+// What the profiler does, if it can act.
 fn profiler_action<R: Run>(machine: &Machine<R>, settings: &Settings) -> Option<Entry>
     requires settings { settings.now ≡ R.settings }
     requires range { AreInRange settings.now }
-    ensures { result ≡ profiler_action R.settings (state_of R.program R.settings machine.now) }
+    ensures entry { result ≡ profiler_action R.settings (state_of R.program R.settings machine.now) }
+    ensures no_point { IfSome result (λ entry. IsGiven (code_of R.program) (state_of R.program R.settings machine.now) entry None) }
 {
     let active = machine.active();
     if active > 0 {
@@ -86,34 +164,44 @@ fn profiler_action<R: Run>(machine: &Machine<R>, settings: &Settings) -> Option<
     None
 }
 
-// Puts an action to the others, where there is one.
-fn put(to: &mut Vec<Entry>, action: Option<Entry>) -> Result<(), Memory>
-    ensures { IfOk result (λ _. to.new.items ≡ to.old.items ++ option_to_list action) }
-{
-    if let Some(entry) = action {
-        to.push(entry)?;
-    }
-    Ok(())
-}
-
-/// What the actors that can act would do, in their order.
-pub(crate) fn actions<R: Run>(
+/// The next turn, where an actor can act. Only the one that acts is looked at.
+pub(crate) fn next_step<R: Run>(
     machine: &Machine<R>,
     bodies: &Bodies<R>,
+    numbers: &Numbers<R>,
     program: &Program,
     settings: &Settings,
-    to: &mut Vec<Entry>,
-) -> Result<(), Memory>
+) -> Option<Step>
     requires program { program.now ≡ R.program }
     requires settings { settings.now ≡ R.settings }
-    requires range { AreInRange settings.now }
+    requires range { AreInRange R.settings }
     requires bodies { AreBodiesOf (state_of R.program R.settings machine.now) bodies.now }
-    ensures { IfOk result (λ _. to.new.items ≡ actions (code_of R.program) R.settings (state_of R.program R.settings machine.now)) }
+    requires room { numbers.now + 1 < 2 ^ 64 }
+    ensures none { IfNone result (
+        chosen R.settings numbers.now (actions (code_of R.program) R.settings (state_of R.program R.settings machine.now)) ≡ None) }
+    ensures turn { IfSome result (λ step.
+        chosen R.settings numbers.now (actions (code_of R.program) R.settings (state_of R.program R.settings machine.now)) ≡ Some step.turn) }
+    ensures point { IfSome result (λ step.
+        IsGiven (code_of R.program) (state_of R.program R.settings machine.now) step.turn.entry step.point) }
+    ensures more { IfSome result (λ step. numbers.now ≤ step.turn.taken) }
+    ensures one { IfSome result (λ step. step.turn.taken ≤ numbers.now + 1) }
 {
-    to.clear();
-    for w in 0..settings.workers {
-        put(to, worker_action(machine, bodies, program, w))?;
+    let head = idle_head(machine);
+    let workers = able(machine, settings, head);
+    let profiler = profiler_acts(machine) as u32;
+    let draw = numbers.choose(workers + profiler)?;
+    let taken = draw.taken;
+    if draw.place < workers {
+        let w = able_at(machine, head, draw.place);
+        let Action { entry, point } = worker_action(machine, bodies, program, w, head);
+        let turn = Turn { entry, taken };
+        return Some(Step { turn, point });
     }
-    put(to, profiler_action(machine, settings))?;
-    Ok(())
+    match profiler_action(machine, settings) {
+        Some(entry) => Some(Step {
+            turn: Turn { entry, taken },
+            point: None,
+        }),
+        None => unreachable!(),
+    }
 }

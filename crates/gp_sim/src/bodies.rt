@@ -1,11 +1,12 @@
-ghost use Rattle.std.specs.Prelude.{◌≡◌, ◌<◌, ◌≤◌, ◌+◌, ◌++◌, ◌∷◌, [], ℕ, Bool, Some, length, get_or, min, IfOk};
+ghost use Rattle.std.specs.Prelude.{◌≡◌, ◌<◌, ◌≤◌, ◌+◌, ◌++◌, ◌∷◌, [], ℕ, Bool, length, get_or, min, IfOk};
 ghost use Rattle.gp_isa.specs.Trace.{trace};
 ghost use Rattle.gp_stack.specs.Body.{progress_of, StandsIn, IsAtShared};
-ghost use Rattle.gp_stack.specs.Goroutine.{next_point, labels_of, local_ahead};
-ghost use Rattle.gp_stack.specs.Peek.{operation_of, then_at};
+ghost use Rattle.gp_stack.specs.Goroutine.{labels_of, local_ahead};
+ghost use Rattle.gp_stack.specs.Peek.{then_at};
 ghost use Rattle.gp_stack.specs.Record.{record_of};
 ghost use Rattle.gp_journal.specs.declared.answer.Applied.TheVariants as applied;
 ghost use Rattle.gp_journal.specs.Bodies.{nowhere, moved_on, followed, gained};
+ghost use Rattle.gp_sim.specs.kept.Bodies.{Shows};
 
 use gp_isa::{Memory, Program};
 use gp_machine::{Applied, Run, Settings, SharedPoint};
@@ -87,22 +88,21 @@ impl<R: Run> Bodies<R> {
         self.bodies[g as usize].labels()
     }
 
-    /// The next point of g, which is shared, with g's labels.
-    pub fn point(&self, program: &Program, g: u32) -> SharedPoint
-        requires program { program.now ≡ R.program }
+    /// The next point of g with g's labels, where it is shared, as a look ahead at it found.
+    pub fn point(&self, g: u32, peek: Peek) -> Option<SharedPoint>
         requires born { g < length self.now }
-        requires shared { let p = get_or self.now g nowhere in IsAtShared (trace R.program p.start) p.count }
-        ensures operation { let p = get_or self.now g nowhere in
-            operation_of (next_point (trace R.program p.start) p.count).instruction ≡ Some result.operation }
-        ensures labels { let p = get_or self.now g nowhere in result.labels ≡ labels_of (trace R.program p.start) p.set p.count }
+        requires then { let p = get_or self.now g nowhere in peek.then ≡ then_at (trace R.program p.start) (p.count + peek.local) }
+        requires local { let p = get_or self.now g nowhere in IsAtShared (trace R.program p.start) p.count → peek.local ≡ 0 }
+        ensures { let p = get_or self.now g nowhere in
+            IsAtShared (trace R.program p.start) p.count → Shows (trace R.program p.start) p result }
     {
-        match self.peek(program, g, 0).then {
-            Then::Shared(operation) => SharedPoint {
+        match peek.then {
+            Then::Shared(operation) => Some(SharedPoint {
                 operation,
                 labels: self.labels(g),
-            },
-            Then::Local => unreachable!(),
-            Then::Over => unreachable!(),
+            }),
+            Then::Local => None,
+            Then::Over => None,
         }
     }
 

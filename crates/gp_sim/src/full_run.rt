@@ -7,13 +7,13 @@ ghost use Rattle.gp_journal.specs.Profiles.{records_of, AreFrozen};
 ghost use Rattle.gp_sim.specs.Choice.{sim_journal};
 ghost use Rattle.gp_sim.specs.kept.Simulation.{next_turn, TakesTurn};
 
-use crate::actions::actions;
+use crate::actions::{Step, next_step};
 use crate::bodies::{Bodies, newborn};
 use crate::numbers::Numbers;
 use crate::simulation::Simulation;
 use gp_history::{History, HistoryParts};
 use gp_isa::{Memory, Program};
-use gp_machine::{Entry, Machine, Run, Settings};
+use gp_machine::{Machine, Run, Settings};
 use gp_stack::Profiles;
 use std::alloc::Global;
 
@@ -54,7 +54,6 @@ impl<R: Run> Simulation<R> {
         alloc: Global,
         program: &Program,
         settings: &Settings,
-        actions_to: &mut Vec<Entry>,
     ) -> Result<bool, Memory>
         requires program { program.now ≡ R.program }
         requires settings { settings.now ≡ R.settings }
@@ -62,16 +61,10 @@ impl<R: Run> Simulation<R> {
         ensures turn { IfOk result (λ made. TakesTurn (next_turn R.program R.settings self.old) made self.old self.new) }
         ensures err { OnErr result (self.new ≡ self.old) }
     {
-        actions(
-            self.history.machine(),
-            &self.bodies,
-            program,
-            settings,
-            actions_to,
-        )?;
-        match self.numbers.choose(actions_to.as_slice()) {
-            Some(turn) => {
-                self.make(alloc, program, settings, turn.entry)?;
+        let machine = self.history.machine();
+        match next_step(machine, &self.bodies, &self.numbers, program, settings) {
+            Some(Step { turn, point }) => {
+                self.make(alloc, program, settings, turn.entry, point)?;
                 self.numbers.take(settings, turn.taken);
                 Ok(true)
             }
@@ -112,9 +105,8 @@ pub fn simulate<R: Run>(
     ensures turns { IfOk result (λ s. s.turns ≡ length s.machine + 1) }
 {
     let mut simulation = Simulation::<R>::new(alloc, program, settings)?;
-    let mut actions_to = Vec::new(alloc);
     let mut turns = 1;
-    while simulation.turn(alloc, program, settings, &mut actions_to)? {
+    while simulation.turn(alloc, program, settings)? {
         turns += 1;
     }
     Ok(simulation.end(turns))

@@ -2,7 +2,7 @@ ghost use Rattle.std.specs.Prelude.{◌≡◌, ◌++◌, ◌∷◌, [], OnOk, On
 ghost use Rattle.gp_journal.specs.State.{code_of};
 ghost use Rattle.gp_journal.specs.May.{May};
 ghost use Rattle.gp_journal.specs.Run.{state_of};
-ghost use Rattle.gp_journal.specs.Shown.{IsPointOf};
+ghost use Rattle.gp_journal.specs.Shown.{IsPointOf, IsGiven};
 ghost use Rattle.gp_journal.specs.declared.entry.Entry.TheVariants as entry;
 ghost use Rattle.gp_stack.specs.declared.statement.Operation.TheVariants as operation;
 ghost use Rattle.gp_sim.specs.kept.Simulation.{IsQuiet, BearsNobody};
@@ -106,14 +106,15 @@ impl<R: Run> Simulation<R> {
         settings: &Settings,
         w: u32,
         g: u32,
+        point: SharedPoint,
     ) -> Result<(), Memory>
         requires program { program.now ≡ R.program }
         requires settings { settings.now ≡ R.settings }
         requires may { May (code_of R.program) R.settings (state_of R.program R.settings self.old.journal) (entry.Op w g) }
+        requires point { IsPointOf (code_of R.program) (state_of R.program R.settings self.old.journal) g point }
         ensures ok { OnOk result (self.new ≡ record self.old { journal = self.old.journal ++ entry.Op w g ∷ [] }) }
         ensures err { OnErr result (self.new ≡ self.old) }
     {
-        let point = self.bodies.point(program, g);
         if self.history.machine().births() < settings.cells {
             if let Operation::Spawn { f } = point.operation {
                 return self.spawn(alloc, program, w, g, point, f);
@@ -123,22 +124,28 @@ impl<R: Run> Simulation<R> {
         Ok(())
     }
 
-    /// Makes an entry that may come. What takes memory is made first.
+    /// Makes an entry that may come, with the next point of its goroutine where it is an Op. What takes memory is made
+    /// first.
     pub fn make(
         &mut self,
         alloc: Global,
         program: &Program,
         settings: &Settings,
         made: Entry,
+        point: Option<SharedPoint>,
     ) -> Result<(), Memory>
         requires program { program.now ≡ R.program }
         requires settings { settings.now ≡ R.settings }
         requires may { May (code_of R.program) R.settings (state_of R.program R.settings self.old.journal) made }
+        requires point { IsGiven (code_of R.program) (state_of R.program R.settings self.old.journal) made point }
         ensures ok { OnOk result (self.new ≡ record self.old { journal = self.old.journal ++ made ∷ [] }) }
         ensures err { OnErr result (self.new ≡ self.old) }
     {
         match made {
-            Entry::Op { w, g } => return self.act(alloc, program, settings, w, g),
+            Entry::Op { w, g } => match point {
+                Some(point) => return self.act(alloc, program, settings, w, g, point),
+                None => unreachable!(),
+            },
             Entry::Record { actor, g } => return self.record(alloc, program, actor, g),
             Entry::Run { w, g, n } => self.run(program, w, g, n),
             Entry::Open { epoch, room } => self.open(epoch, room),

@@ -1,7 +1,8 @@
 ghost use Rattle.std.specs.Prelude.{◌≡◌, ◌<◌, ◌≤◌, ◌+◌, ◌-◌, ◌^◌, length};
 ghost use Rattle.rand_pcg.specs.Lcg.{advance};
 ghost use Rattle.rand_pcg.specs.Pcg.{multiplier_64};
-ghost use Rattle.gp_sim.specs.Choice.{seeded, number, chosen};
+ghost use Rattle.gp_sim.specs.Choice.{seeded, number};
+ghost use Rattle.gp_sim.specs.kept.Numbers.{drawn_of};
 
 use gp_machine::{Entry, Run, Settings};
 use rand_core::utils::NextWord;
@@ -13,6 +14,13 @@ use std::marker::{Model, PhantomData};
 pub struct Turn {
     pub entry: Entry,
     pub taken: usize,
+}
+
+/// Which of those that can act does, by its place among them, and how many numbers were taken once its turn is made.
+#[derive(Clone, Copy, Debug)]
+pub(crate) struct Draw {
+    pub(crate) place: u32,
+    pub(crate) taken: usize,
 }
 
 /// The numbers by which a run's turns are chosen: its picks, and then the words of the generator at its seed, on
@@ -65,24 +73,23 @@ impl<R: Run> Numbers<R> {
         }
     }
 
-    /// One of some actions: where there is but one, that one, and no number is taken; else the next number modulo how
-    /// many there are is its place. Nothing is taken yet.
-    pub fn choose(&self, actions: &[Entry]) -> Option<Turn>
+    /// The place of one of so many, counted from 0: where there is but one, that one's, and no number is taken; else the
+    /// next number modulo how many there are. Nothing is taken yet.
+    pub fn choose(&self, among: u32) -> Option<Draw>
         requires { self.now + 1 < 2 ^ 64 }
-        ensures { result ≡ chosen R.settings self.now actions.now }
+        ensures { result ≡ drawn_of R.settings self.now among }
     {
-        let entry = match actions.len() {
-            0 => return None,
-            1 => {
-                return Some(Turn {
-                    entry: actions[0],
-                    taken: self.taken,
-                });
-            }
-            among => actions[self.next as usize % among],
-        };
-        Some(Turn {
-            entry,
+        if among == 0 {
+            return None;
+        }
+        if among == 1 {
+            return Some(Draw {
+                place: 0,
+                taken: self.taken,
+            });
+        }
+        Some(Draw {
+            place: self.next % among,
             taken: self.taken + 1,
         })
     }

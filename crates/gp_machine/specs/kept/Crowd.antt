@@ -1,5 +1,5 @@
 -- The goroutines that were born, with what is counted of them, and marks of who has still to be recorded.
-use Rattle.std.specs.Prelude.{◌≡◌, ◌≤◌, ℕ, Bool, false, not, ◌&&◌, List, length, get_or, count_by, if◌then◌else◌}
+use Rattle.std.specs.Prelude.{◌≡◌, ◌+◌, ◌≤◌, ℕ, Bool, false, not, ◌&&◌, List, length, get_or, count_by, if◌then◌else◌}
 use Rattle.gp_journal.specs.declared.goroutine.Goroutine.{Goroutine}
 use Rattle.gp_isa.specs.Limits.{most_cells}
 pub use Rattle.gp_journal.specs.Standing.{first_behind}
@@ -14,6 +14,10 @@ pub record Crowd : Type 0 where
 -- whether a goroutine is live and has nothing to be recorded in the profile of an epoch
 abbrev pub is_settled : ℕ → Goroutine → Bool
 is_settled active g = is_live g && not (is_behind active g)
+
+-- a goroutine that has passed n points more
+abbrev pub further : ℕ → Goroutine → Goroutine
+further n g = record g { count = g.count + n }
 
 -- 1 where something is so
 abbrev pub one_if : Bool → ℕ

@@ -1,4 +1,4 @@
-use Rattle.std.proofs.Common.{◌≡◌, ◌<◌, ◌∙◌, length, get_or, sym, ap, arith, length-set}
+use Rattle.std.proofs.Common.{◌≡◌, ◌<◌, ◌∙◌, length, get_or, refl, sym, ap, arith, length-set}
 use Rattle.gp_journal.specs.State.{nobody, is_runnable, is_running, is_live, is_behind}
 use Rattle.gp_machine.specs.kept.Crowd.{Crowd, is_settled}
 use Rattle.gp_machine.proofs.Marked.{number_set, AreMarked, marked_set}
@@ -13,8 +13,8 @@ invariant_of-self c =
     let old : c.get-old.result ≡ get_or all c.args.g nobody = c.get-old.ensures ∙ ap (λ (crowd : Crowd). get_or crowd.all c.args.g nobody) (sym c.self.view_is) in
     let were_behind : AreMarked (is_behind inside.active) inside.cells all inside.unrecorded = record { long = counted.unrecorded_marks; same = counted.behind } in
     let were_settled : AreMarked (is_settled inside.active) inside.cells all inside.recorded = record { long = counted.recorded_marks; same = counted.settled } in
-    let behind = marked_set (is_behind inside.active) inside.cells all inside.unrecorded c.mark.new.ids c.args.g c.args.new c.is_behind.result were_behind within counted.born c.is_behind.ensures c.mark.ensures in
-    let settled = marked_set (is_settled inside.active) inside.cells all inside.recorded c.mark-2.new.ids c.args.g c.args.new c.is_settled.result were_settled within counted.born c.is_settled.ensures c.mark-2.ensures in
+    let behind = marked_set (is_behind inside.active) inside.cells all inside.unrecorded c.mark_again.new.unrecorded c.args.g c.args.new (is_behind inside.active c.args.new) were_behind within counted.born refl c.mark_again.ensures.behind in
+    let settled = marked_set (is_settled inside.active) inside.cells all inside.recorded c.mark_again.new.recorded c.args.g c.args.new (is_settled inside.active c.args.new) were_settled within counted.born refl c.mark_again.ensures.settled in
     record {
       reserved = counted.reserved;
       few = counted.few;
