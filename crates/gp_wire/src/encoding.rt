@@ -1,11 +1,10 @@
-ghost use Rattle.std.specs.Prelude.{◌≡◌, ◌+◌, ◌*◌, [], ◌∷◌, ◌++◌, map, OnOk};
+ghost use Rattle.std.specs.Prelude.{◌≡◌, ◌+◌, ◌*◌, ℕ, [], ◌∷◌, ◌++◌, length, map, OnOk, IfOk};
 ghost use Rattle.std.specs.List.{flat_map};
 ghost use Rattle.gp_wire.specs.Varint.{varint};
 ghost use Rattle.gp_wire.specs.Field.{spelled};
 ghost use Rattle.gp_wire.specs.Canonical.{twos_complement, scalar, signed, part as one_part, packed};
 
 use gp_isa::Memory;
-use std::alloc::Global;
 
 /// The wire type of a number.
 const VARINT: u32 = 0;
@@ -50,62 +49,90 @@ pub fn put_signed(out: &mut Vec<u8>, number: u32, value: i64) -> Result<(), Memo
     put_number(out, number, value.cast_unsigned())
 }
 
+// What stands in front of a part: its key and its length in bytes.
+fn put_head(out: &mut Vec<u8>, number: u32, len: usize) -> Result<(), Memory>
+    ensures { OnOk result (out.new.items ≡ out.old.items ++ (varint (number * 8 + 2) ++ varint len)) }
+{
+    put_key(out, number, LEN)?;
+    put_varint(out, len as u64)
+}
+
 /// Appends a part of bytes, also an empty one.
 #[tactic(auto, unfolding(crate::specs::Field::spelled))]
 pub fn put_part(out: &mut Vec<u8>, number: u32, part: &[u8]) -> Result<(), Memory>
     ensures { OnOk result (out.new.items ≡ out.old.items ++ spelled (one_part number part.now ∷ [])) }
 {
-    put_key(out, number, LEN)?;
-    put_varint(out, part.len() as u64)?;
+    put_head(out, number, part.len())?;
     out.extend_from_slice(part)?;
     Ok(())
 }
 
-fn pack_words(out: &mut Vec<u8>, words: &[u64]) -> Result<(), Memory>
-    ensures { OnOk result (out.new.items ≡ out.old.items ++ flat_map varint words.now) }
+/// A number of a packed field, which the wire has as a varint.
+pub trait Word: Copy {
+    /// The number without a sign.
+    ghost word: { Self → ℕ };
+
+    fn word(self) -> u64
+        ensures { result ≡ word self };
+}
+
+impl Word for u64 {
+    ghost word = { λ n. n };
+
+    fn word(self) -> u64 {
+        self
+    }
+}
+
+impl Word for i64 {
+    ghost word = { twos_complement };
+
+    fn word(self) -> u64 {
+        self.cast_unsigned()
+    }
+}
+
+// How many bytes a number takes.
+fn varint_len(value: u64) -> usize
+    ensures { result ≡ length (varint value) }
 {
-    for word in words {
-        put_varint(out, *word)?;
+    let mut left = value;
+    let mut len = 1;
+    while left >= 128 {
+        left /= 128;
+        len += 1;
+    }
+    len
+}
+
+// How many bytes packed numbers take. No part in memory has more than a `usize` counts.
+fn packed_len<T: Word>(items: &[T]) -> Result<usize, Memory>
+    ensures { IfOk result (λ len. len ≡ length (flat_map varint (map T.word items.now))) }
+{
+    let mut len = 0usize;
+    for item in items {
+        len = len.checked_add(varint_len(item.word())).ok_or(Memory)?;
+    }
+    Ok(len)
+}
+
+fn pack<T: Word>(out: &mut Vec<u8>, items: &[T]) -> Result<(), Memory>
+    ensures { OnOk result (out.new.items ≡ out.old.items ++ flat_map varint (map T.word items.now)) }
+{
+    for item in items {
+        put_varint(out, item.word())?;
     }
     Ok(())
 }
 
-fn pack_values(out: &mut Vec<u8>, values: &[i64]) -> Result<(), Memory>
-    ensures { OnOk result (out.new.items ≡ out.old.items ++ flat_map varint (map twos_complement values.now)) }
+/// Appends repeated numbers in one part, or nothing where there are none. Their length is counted first, since it
+/// stands before them, so that each byte is written once.
+pub fn put_packed<T: Word>(out: &mut Vec<u8>, number: u32, items: &[T]) -> Result<(), Memory>
+    ensures { OnOk result (out.new.items ≡ out.old.items ++ spelled (packed number (map T.word items.now))) }
 {
-    for value in values {
-        put_varint(out, value.cast_unsigned())?;
-    }
-    Ok(())
-}
-
-/// Appends repeated numbers in one part, or nothing where there are none.
-#[tactic(auto, unfolding(crate::specs::Field::spelled, crate::specs::Canonical::packed))]
-pub fn put_words(alloc: Global, out: &mut Vec<u8>, number: u32, words: &[u64]) -> Result<(), Memory>
-    ensures { OnOk result (out.new.items ≡ out.old.items ++ spelled (packed number words.now)) }
-{
-    if words.is_empty() {
+    if items.is_empty() {
         return Ok(());
     }
-    let mut packed_words = Vec::new(alloc);
-    pack_words(&mut packed_words, words)?;
-    put_part(out, number, &packed_words)
-}
-
-/// Appends repeated numbers in one part, or nothing where there are none.
-#[tactic(auto, unfolding(crate::specs::Field::spelled, crate::specs::Canonical::packed))]
-pub fn put_values(
-    alloc: Global,
-    out: &mut Vec<u8>,
-    number: u32,
-    values: &[i64],
-) -> Result<(), Memory>
-    ensures { OnOk result (out.new.items ≡ out.old.items ++ spelled (packed number (map twos_complement values.now))) }
-{
-    if values.is_empty() {
-        return Ok(());
-    }
-    let mut packed_values = Vec::new(alloc);
-    pack_values(&mut packed_values, values)?;
-    put_part(out, number, &packed_values)
+    put_head(out, number, packed_len(items)?)?;
+    pack(out, items)
 }

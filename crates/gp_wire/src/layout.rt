@@ -4,7 +4,7 @@
 ghost use Rattle.gp_wire.specs.Canonical.{value_type_fields, sample_fields, label_fields, location_fields};
 ghost use Rattle.gp_wire.specs.Canonical.{line_fields, function_fields, profile_fields};
 
-use crate::encoding::{put_number, put_signed, put_values, put_words};
+use crate::encoding::{put_number, put_packed, put_signed};
 use crate::message::{Message, put_messages, put_optional, put_texts};
 use crate::profile::{Function, Label, Line, Location, Profile, Sample, ValueType};
 use gp_isa::Memory;
@@ -78,13 +78,8 @@ impl Message for Sample {
     ghost fields = { sample_fields };
 
     fn put(&self, alloc: Global, out: &mut Vec<u8>) -> Result<(), Memory> {
-        put_words(
-            alloc,
-            out,
-            Sample::LOCATION_ID,
-            self.location_ids.as_slice(),
-        )?;
-        put_values(alloc, out, Sample::VALUE, self.values.as_slice())?;
+        put_packed(out, Sample::LOCATION_ID, self.location_ids.as_slice())?;
+        put_packed(out, Sample::VALUE, self.values.as_slice())?;
         put_messages(alloc, out, Sample::LABEL, self.labels.as_slice())
     }
 }
