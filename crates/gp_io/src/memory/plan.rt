@@ -11,7 +11,7 @@ pub type Calls = Sequence<u64>;
 
 /// Which calls are to fail, how many were made, and how many of these failed. Both counts stand still at
 /// `u64::MAX`.
-#[derive(Debug, Drop)]
+#[derive(Drop)]
 pub struct FaultPlan {
     fails: Calls,
     calls: u64,

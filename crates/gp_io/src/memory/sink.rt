@@ -11,7 +11,7 @@ use std::marker::Model;
 use std::mem;
 
 /// A sink in memory, whose calls fail by a list of their numbers.
-#[derive(Debug, Drop)]
+#[derive(Drop)]
 pub struct MemSink {
     alloc: Global,
     written: Content,
@@ -53,7 +53,10 @@ fn append(alloc: Global, written: &mut Content, piece: &[u8]) -> Result<(), Memo
     let mut bytes = mem::replace(written, Content::new(alloc)).into_vec();
     let outcome = bytes.extend_from_slice(piece);
     *written = Content::from_vec(bytes);
-    Ok(outcome?)
+    match outcome {
+        Ok(()) => Ok(()),
+        Err(_) => Err(Memory),
+    }
 }
 
 impl Sink for MemSink {

@@ -6,10 +6,11 @@ ghost use Rattle.gp_io.specs.InMemory.{unused, IsNextToFail, after_success, afte
 use crate::memory::plan::{Calls, FaultPlan};
 use crate::source::{Failed, Source};
 use gp_isa::Content;
+use std::io::Read;
 use std::marker::Model;
 
 /// A source in memory, whose calls fail by a list of their numbers.
-#[derive(Debug, Drop)]
+#[derive(Drop)]
 pub struct MemSource {
     bytes: Content,
     // where the bytes begin that are left
@@ -41,17 +42,6 @@ impl MemSource {
     }
 }
 
-// Copies the front of the bytes into the front of `to`, as many as there are and fit.
-fn copy_front(bytes: &[u8], to: &mut [u8]) -> usize
-    ensures count { result ≡ min (length to.old) (length bytes.now) }
-    ensures copied { to.new ≡ take result bytes.now ++ drop result to.old }
-    ensures front { take result to.new ≡ take result bytes.now }
-{
-    let n = to.len().min(bytes.len());
-    to[..n].copy_from_slice(&bytes[..n]);
-    n
-}
-
 impl Source for MemSource {
     ghost faults = { λ s. s.plan.faults };
 
@@ -73,7 +63,8 @@ impl Source for MemSource {
         ensures failed { OnErr result (Rose self.old.plan.faults self.new.plan.faults) }
     {
         self.plan.call()?;
-        let n = copy_front(&self.bytes.as_slice()[self.at..], to);
+        let mut left = &self.bytes.as_slice()[self.at..];
+        let n = left.read(to).unwrap_or(0);
         self.at += n;
         Ok(n)
     }

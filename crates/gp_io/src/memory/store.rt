@@ -1,4 +1,5 @@
-ghost use Rattle.std.specs.Prelude.{◌≡◌, [], List, ℕ, Option, Some, IsErr, OnOk, OnErr};
+ghost use Rattle.std.specs.Prelude.{◌≡◌, [], List, ℕ, Option, Some, IsErr, OnOk, OnErr, not};
+ghost use Rattle.std.specs.Str.{bytes_eq};
 ghost use Rattle.gp_io.specs.Outside.{Rose, RoseBy, File, Puts, KeepsOthers, with_file};
 ghost use Rattle.gp_io.specs.InMemory.{unused, IsNextToFail, after_success, after_fault};
 
@@ -14,7 +15,7 @@ use std::mem;
 pub type Files = Sequence<(Text, Content)>;
 
 /// A store in memory, whose calls fail by a list of their numbers.
-#[derive(Debug, Drop)]
+#[derive(Drop)]
 pub struct MemStore {
     alloc: Global,
     files: Files,
@@ -64,6 +65,13 @@ fn put_last(alloc: Global, files: &mut Files, name: &str, bytes: &[u8]) -> Resul
     outcome
 }
 
+// Whether a file has another name.
+fn is_other(file: &(Text, Content), name: &str) -> bool
+    ensures { result ≡ not (bytes_eq file.now.0 name.now) }
+{
+    file.0.as_str() != name
+}
+
 // Takes the room first, so that a failure leaves the files as they were.
 fn push_last(
     items: &mut Vec<(Text, Content)>,
@@ -75,7 +83,7 @@ fn push_last(
     ensures err { OnErr result (items.new.items ≡ items.old.items) }
 {
     items.reserve(1)?;
-    items.retain(|file| file.0.as_str() != name);
+    items.retain(|file| is_other(file, name));
     items.push(file).unwrap();
     Ok(())
 }

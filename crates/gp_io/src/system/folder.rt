@@ -8,7 +8,7 @@ use std::io::{ErrorKind, Write};
 use std::rt::Files;
 
 /// Why a new file was not made.
-#[derive(Clone, Copy, Debug, PartialEq, Eq)]
+#[derive(Clone, Copy)]
 pub(crate) enum NotMade {
     /// Something stands under this name.
     Taken,
