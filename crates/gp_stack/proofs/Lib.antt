@@ -2,6 +2,7 @@ pub mod Costs
 pub mod Levels
 pub mod Moves
 pub mod Points
+pub mod Passing
 pub mod Settle
 pub mod Stands
 pub mod Climbing

@@ -1,6 +1,6 @@
 -- A body that stands in a program stands there after it passed points.
 use Rattle.std.proofs.Common.{◌≡◌, ◌<◌, ◌≤◌, ◌+◌, ◌-◌, ℕ, zero, suc, true, false, List, [], ◌∷◌, ◌++◌, Some, length, drop, take, map, get_or, nat_le, replicate, reverse, refl, ap, sym, ◌∙◌, arith, subst}
-use Rattle.std.proofs.lemmas.List.{drop-drop, length-map, length-replicate, length-drop}
+use Rattle.std.proofs.lemmas.List.{take_at, drop-drop, length-map, length-replicate, length-drop}
 use Rattle.std.specs.Prelude.{slice_get}
 use Rattle.gp_isa.specs.declared.frame.Frame.{Frame}
 use Rattle.gp_isa.specs.declared.parts.Parts.{Parts}
@@ -13,13 +13,15 @@ use Rattle.gp_stack.specs.declared.level.Level.{Level}
 use Rattle.gp_stack.specs.declared.place.Place.{Place}
 use Rattle.gp_stack.specs.declared.statement.Operation.{Operation}
 use Rattle.gp_stack.specs.declared.statement.Operation.TheVariants as operation
-use Rattle.gp_stack.specs.Goroutine.{no_point, next_point, stack_of, is_ended, set_after_all, local_ahead}
+use Rattle.gp_stack.specs.Goroutine.{no_point, next_point, stack_of, is_ended, set_after_all, labels_of, local_ahead}
 use Rattle.gp_stack.specs.kept.Level.{is_base, body_at, line_at, callers, called_from, leaf_of, left}
 use Rattle.gp_stack.specs.kept.Place.{levels, stepped, IsIn, IsSettled, AtPoint, AtEnd, IsPoint}
 use Rattle.gp_stack.specs.kept.Ahead.{Does, action_of_operation}
 use Rattle.gp_stack.specs.Body.{StandsIn, IsAtShared}
 use Rattle.gp_stack.specs.kept.Standing.{IsPartOf}
+use Rattle.gp_stack.specs.kept.Passing.{Passes}
 use Rattle.gp_stack.proofs.Moves.{added, left_next, left_turned}
+use Rattle.gp_stack.proofs.Passing.{passes_none, work_keeps_labels}
 use Rattle.gp_stack.proofs.Points.{local_ahead_more, labels_more, work_left, work_labels, passed_whole, local_ahead_le, next_is, no_local, none_ahead}
 
 -- one statement stands at a place
@@ -79,28 +81,36 @@ next_work parts level outer n d =
 length_added : (parts : Parts) (level : Level) (outer : List Level) (line : ℕ) (a : Action) → length (map (called_from (callers parts (is_base level) outer)) (added parts level line a)) ≡ length (added parts level line a)
 length_added parts level outer line a = length-map (added parts level line a) (called_from (callers parts (is_base level) outer))
 
--- the body after it passed the whole of its statement
-pub stands_after : (parts : Parts) (body : Body) (place : Place) (a : Action) (k labels : ℕ) (d : Does (body_at parts body.place.top (reverse body.place.outer.items)) body.place.top.at a) → StandsIn parts body → IsIn parts place →
-    left parts (levels place) ≡ left parts (stepped (levels body.place)) → IsSettled parts place.top (reverse place.outer.items) → length (added parts body.place.top (line_of d.statement) a) ≡ body.passed + k →
-    body.count + k ≤ length (trace parts body.start) → labels ≡ set_after_all body.labels (take k (drop body.passed (left parts (levels body.place)))) →
-    StandsIn parts (record { start = body.start; set = body.set; labels = labels; count = body.count + k; passed = 0; place = place })
-stands_after parts body place a k labels d stands whole rest settled size within after =
+-- the body after it passed the whole of its statement, and then points of work
+pub stands_after : (parts : Parts) (body : Body) (place : Place) (a : Action) (k m labels : ℕ) (d : Does (body_at parts body.place.top (reverse body.place.outer.items)) body.place.top.at a) → StandsIn parts body → IsIn parts place →
+    Passes parts (stepped (levels body.place)) (levels place) m → IsSettled parts place.top (reverse place.outer.items) → length (added parts body.place.top (line_of d.statement) a) ≡ body.passed + k →
+    body.count + (k + m) ≤ length (trace parts body.start) → labels ≡ set_after_all body.labels (take k (drop body.passed (left parts (levels body.place)))) →
+    StandsIn parts (record { start = body.start; set = body.set; labels = labels; count = body.count + (k + m); passed = 0; place = place })
+stands_after parts body place a k m labels d stands whole passes settled size within after =
     let level : Level = body.place.top in
     let outer : List Level = reverse body.place.outer.items in
+    let points : List Point = trace parts body.start in
     let xs : List Point = map (called_from (callers parts (is_base level) outer)) (added parts level (line_of d.statement) a) in
     let all : left parts (level ∷ outer) ≡ xs ++ left parts (stepped (level ∷ outer)) = left_next parts level outer a d in
-    let all_left : drop body.passed (xs ++ left parts (stepped (level ∷ outer))) ≡ drop body.count (trace parts body.start) = ap (drop body.passed) (sym all) ∙ stands.left in
-    let behind : drop (body.count + k) (trace parts body.start) ≡ left parts (stepped (level ∷ outer)) =
-    passed_whole xs (left parts (stepped (level ∷ outer))) (trace parts body.start) body.passed body.count k (length_added parts level outer (line_of d.statement) a ∙ size) all_left in
+    let all_left : drop body.passed (xs ++ left parts (stepped (level ∷ outer))) ≡ drop body.count points = ap (drop body.passed) (sym all) ∙ stands.left in
+    let behind : drop (body.count + k) points ≡ passes.points ++ left parts (levels place) =
+    passed_whole xs (left parts (stepped (level ∷ outer))) points body.passed body.count k (length_added parts level outer (line_of d.statement) a ∙ size) all_left ∙ passes.split in
+    let count : body.count + k + m ≡ body.count + (k + m) = omega arith in
+    let rest : drop (body.count + (k + m)) points ≡ left parts (levels place) =
+    ap (λ n. drop n points) (sym count) ∙ passed_whole passes.points (left parts (levels place)) points 0 (body.count + k) m (passes.count ∙ omega arith) (sym behind) in
+    let labels_before : labels ≡ labels_of points body.set (body.count + k) =
+    after ∙ (ap (λ ps. set_after_all body.labels (take k ps)) stands.left ∙
+    (ap (λ l. set_after_all l (take k (drop body.count points))) stands.labels ∙ sym (labels_more points body.set body.count k))) in
+    let passed : take m (drop (body.count + k) points) ≡ passes.points = ap (take m) behind ∙ take_at passes.points (left parts (levels place)) m passes.count in
     record {
       place = whole;
       settled = settled;
       part = λ b e. part_zero b (settled_point parts place.top (reverse place.outer.items) b settled e);
-      left = rest ∙ sym behind;
+      left = sym rest;
       within = within;
       short = stands.short;
-      labels = after ∙ (ap (λ points. set_after_all body.labels (take k points)) stands.left ∙
-          (ap (λ l. set_after_all l (take k (drop body.count (trace parts body.start)))) stands.labels ∙ sym (labels_more (trace parts body.start) body.set body.count k)));
+      labels = labels_before ∙ sym (ap (labels_of points body.set) (sym count) ∙ (labels_more points body.set (body.count + k) m ∙
+          (ap (set_after_all (labels_of points body.set (body.count + k))) passed ∙ work_keeps_labels (labels_of points body.set (body.count + k)) passes.points passes.work)));
     }
 
 -- so many points can be passed as are ahead
@@ -109,14 +119,14 @@ within_ahead points count k here few =
     let h : local_ahead points count ≤ length (drop count points) = local_ahead_le points count in
     omega (arith, length-drop count points)
 
-pub stands_work : (parts : Parts) (body : Body) (place : Place) (n k : ℕ) → Does (body_at parts body.place.top (reverse body.place.outer.items)) body.place.top.at (Work n) → StandsIn parts body → IsIn parts place →
-    left parts (levels place) ≡ left parts (stepped (levels body.place)) → IsSettled parts place.top (reverse place.outer.items) → n ≡ body.passed + k → body.count + k ≤ length (trace parts body.start) →
-    StandsIn parts (record { start = body.start; set = body.set; labels = body.labels; count = body.count + k; passed = 0; place = place })
-stands_work parts body place n k d stands whole rest settled size within =
+pub stands_work : (parts : Parts) (body : Body) (place : Place) (n k m : ℕ) → Does (body_at parts body.place.top (reverse body.place.outer.items)) body.place.top.at (Work n) → StandsIn parts body → IsIn parts place →
+    Passes parts (stepped (levels body.place)) (levels place) m → IsSettled parts place.top (reverse place.outer.items) → n ≡ body.passed + k → body.count + (k + m) ≤ length (trace parts body.start) →
+    StandsIn parts (record { start = body.start; set = body.set; labels = body.labels; count = body.count + (k + m); passed = 0; place = place })
+stands_work parts body place n k m d stands whole passes settled size within =
     let level : Level = body.place.top in
     let outer : List Level = reverse body.place.outer.items in
     let p : Point = called_from (callers parts (is_base level) outer) (point_at level.function (line_of d.statement) Local) in
-    stands_after parts body place (Work n) k body.labels d stands whole rest settled (length-replicate n (point_at level.function (line_of d.statement) Local) ∙ size) within
+    stands_after parts body place (Work n) k m body.labels d stands whole passes settled (length-replicate n (point_at level.function (line_of d.statement) Local) ∙ size) within
     (sym (ap (λ points. set_after_all body.labels (take k (drop body.passed points))) (next_work parts level outer n d) ∙ work_labels body.labels n body.passed k p (left parts (stepped (level ∷ outer))) refl (omega arith)))
 
 part_work : (n passed : ℕ) (a : Action) → Work n ≡ a → passed < n → IsPartOf passed a
@@ -141,16 +151,17 @@ stands_part parts body n k d stands few within =
           (ap (λ l. set_after_all l (take k (drop body.count (trace parts body.start)))) stands.labels ∙ sym (labels_more (trace parts body.start) body.set body.count k)));
     }
 
-pub stands_labels : (parts : Parts) (body : Body) (place : Place) (s : ℕ) → Does (body_at parts body.place.top (reverse body.place.outer.items)) body.place.top.at (Labels s) → StandsIn parts body → IsIn parts place →
-    left parts (levels place) ≡ left parts (stepped (levels body.place)) → IsSettled parts place.top (reverse place.outer.items) → body.count + 1 ≤ length (trace parts body.start) →
-    StandsIn parts (record { start = body.start; set = body.set; labels = s; count = body.count + 1; passed = body.passed; place = place })
-stands_labels parts body place s d stands whole rest settled within =
+pub stands_labels : (parts : Parts) (body : Body) (place : Place) (s m : ℕ) → Does (body_at parts body.place.top (reverse body.place.outer.items)) body.place.top.at (Labels s) → StandsIn parts body → IsIn parts place →
+    Passes parts (stepped (levels body.place)) (levels place) m → IsSettled parts place.top (reverse place.outer.items) → body.count + (1 + m) ≤ length (trace parts body.start) →
+    StandsIn parts (record { start = body.start; set = body.set; labels = s; count = body.count + (1 + m); passed = body.passed; place = place })
+stands_labels parts body place s m d stands whole passes settled within =
     let level : Level = body.place.top in
     let outer : List Level = reverse body.place.outer.items in
     let none : body.passed ≡ 0 = stands.part (Labels s) d in
     let after : s ≡ set_after_all body.labels (take 1 (drop body.passed (left parts (levels body.place)))) = sym (rw (none, left_next parts level outer (Labels s) d) refl) in
-    let whole_one : StandsIn parts (record { start = body.start; set = body.set; labels = s; count = body.count + 1; passed = 0; place = place }) = stands_after parts body place (Labels s) 1 s d stands whole rest settled (omega arith) within after in
-    subst (λ passed. StandsIn parts (record { start = body.start; set = body.set; labels = s; count = body.count + 1; passed = passed; place = place })) (sym none) whole_one
+    let whole_one : StandsIn parts (record { start = body.start; set = body.set; labels = s; count = body.count + (1 + m); passed = 0; place = place }) =
+    stands_after parts body place (Labels s) 1 m s d stands whole passes settled (omega arith) within after in
+    subst (λ passed. StandsIn parts (record { start = body.start; set = body.set; labels = s; count = body.count + (1 + m); passed = passed; place = place })) (sym none) whole_one
 
 -- what a shared point is, of each operation
 pub record IsSharedPoint (points : List Point) : Type 0 where
@@ -195,8 +206,10 @@ stands_shared parts body place o d stands whole rest settled within =
     sym (ap (λ points. set_after_all body.labels (take 1 points)) (stands.left ∙ next_shared parts body o d stands) ∙ point.plain body.labels) in
     let size : length (added parts level (line_of d.statement) (action_of_operation o)) ≡ body.passed + 1 =
     sym (length_added parts level outer (line_of d.statement) (action_of_operation o)) ∙ (ap length point.alone ∙ omega arith) in
-    let whole_one : StandsIn parts (record { start = body.start; set = body.set; labels = body.labels; count = body.count + 1; passed = 0; place = place }) = stands_after parts body place (action_of_operation o) 1 body.labels d stands whole rest
-    settled size within after in
+    let one : body.count + (1 + 0) ≡ body.count + 1 = omega arith in
+    let whole_one : StandsIn parts (record { start = body.start; set = body.set; labels = body.labels; count = body.count + 1; passed = 0; place = place }) =
+    subst (λ count. StandsIn parts (record { start = body.start; set = body.set; labels = body.labels; count = count; passed = 0; place = place })) one
+    (stands_after parts body place (action_of_operation o) 1 0 body.labels d stands whole (passes_none parts (stepped (levels body.place)) (levels place) rest) settled size (omega (arith, within)) after) in
     subst (λ passed. StandsIn parts (record { start = body.start; set = body.set; labels = body.labels; count = body.count + 1; passed = passed; place = place })) (sym none) whole_one
 
 -- a shared point is not local

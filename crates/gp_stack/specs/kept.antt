@@ -5,4 +5,5 @@ pub mod Place
 pub mod Cost
 pub mod Climb
 pub mod Looks
+pub mod Passing
 pub mod Standing

@@ -98,7 +98,8 @@ impl Body {
         self.labels
     }
 
-    /// Passes `n` local points. It takes time by the statements and turns that it crosses, however large `n` is.
+    /// Passes `n` local points. It takes time by the statements and turns that it crosses, however large `n` is; a call
+    /// whose points all are work is one statement.
     pub fn advance(&mut self, program: &Program, n: u64)
         requires stands { StandsIn program.now self.old }
         requires ahead { n ≤ ahead_at program.now (progress_of self.old) }
@@ -121,7 +122,7 @@ impl Body {
         match self.place.ahead(program) {
             Ahead::Shared(_) => {
                 self.count += 1;
-                self.place.pass(program);
+                self.place.pass(program, 0);
             }
             Ahead::End => unreachable!(),
             Ahead::Work(_) => unreachable!(),
@@ -233,7 +234,7 @@ impl Body {
         written
     }
 
-    /// Passes up to `n` local points of one statement, and says how many.
+    /// Passes up to `n` local points, those of one statement and of calls behind it, and says how many.
     fn advance_some(&mut self, program: &Program, n: u64) -> u64
         requires stands { StandsIn program.now self.old }
         requires some { 0 < n }
@@ -252,16 +253,16 @@ impl Body {
                     n
                 } else {
                     self.passed = 0;
-                    self.count += left;
-                    self.place.pass(program);
-                    left
+                    let behind = self.place.pass(program, n - left);
+                    self.count += left + behind;
+                    left + behind
                 }
             }
             Ahead::Labels(set) => {
                 self.labels = set;
-                self.count += 1;
-                self.place.pass(program);
-                1
+                let behind = self.place.pass(program, n - 1);
+                self.count += 1 + behind;
+                1 + behind
             }
             Ahead::End => unreachable!(),
             Ahead::Loop(_, _) => unreachable!(),

@@ -6,6 +6,7 @@ ghost use Rattle.gp_isa.specs.Trace.{repeated};
 ghost use Rattle.gp_stack.specs.kept.Ahead.{Does};
 ghost use Rattle.gp_stack.specs.kept.Level.{body_at, left_here, points_of_call};
 ghost use Rattle.gp_stack.specs.declared.peek.Then.TheVariants.{Over};
+ghost use Rattle.gp_stack.specs.kept.Passing.{AreWork};
 ghost use Rattle.gp_stack.specs.kept.Looks.{peek_of, steps, points_of_action, points_of_all};
 
 use crate::level::{Level, body, function_body};
@@ -76,6 +77,24 @@ fn local_call(program: &Program, calls: u16, h: u32) -> Option<u64>
         return None;
     }
     if size.local { Some(size.points) } else { None }
+}
+
+/// How many points a call of function `f` has where all are work and at most `most`, with calls followed so deep.
+pub(crate) fn work_call(program: &Program, calls: u16, f: u32, most: u64) -> Option<u64>
+    ensures work { IfSome result (AreWork (points_of_call program.now calls f)) }
+    ensures few { IfSome result (λ n. n ≤ most) }
+{
+    if f as usize >= program.parts().functions.len() {
+        return None;
+    }
+    let size = program.size(f);
+    if size.frames > calls as u32 {
+        return None;
+    }
+    if size.points > most {
+        return None;
+    }
+    if size.work { Some(size.points) } else { None }
 }
 
 /// The points of statement `at`, with calls and loops followed so deep.

@@ -1,4 +1,4 @@
-ghost use Rattle.std.specs.Prelude.{◌≡◌, ◌+◌, ◌-◌, ◌*◌, ◌<◌, ◌≤◌, ◌^◌, List, [], ◌∷◌, ◌++◌, IsTrue, length, reverse, vec_len, vec_capacity, drop, IfOk, Option};
+ghost use Rattle.std.specs.Prelude.{◌≡◌, ◌+◌, ◌-◌, ◌*◌, ◌<◌, ◌≤◌, ◌^◌, List, [], ◌∷◌, ◌++◌, IsTrue, length, reverse, vec_len, vec_capacity, drop, IfOk, IfSome, MatchOption, Option};
 ghost use Rattle.std.specs.Bool.{OnTrue, OnFalse};
 ghost use Rattle.gp_stack.specs.kept.Place.{levels, stepped, left_behind, looped, called, levels_from, room, IsIn, IsSettled};
 ghost use Rattle.gp_isa.specs.Trace.{trace, trace_within};
@@ -8,9 +8,10 @@ ghost use Rattle.gp_stack.specs.kept.Ahead.{IsAhead, HasNext};
 ghost use Rattle.gp_stack.specs.kept.Looks.{peek_of, steps};
 ghost use Rattle.gp_stack.specs.declared.statement.Operation.{Operation};
 ghost use Rattle.gp_stack.specs.kept.Cost.{cost};
+ghost use Rattle.gp_stack.specs.kept.Passing.{Passes, IsWorkCall};
 
 use crate::level::{Level, body};
-use crate::peek::{Peek, Then, look_level};
+use crate::peek::{Peek, Then, look_level, work_call};
 use crate::statement::{Ahead, statement_at};
 use gp_isa::limits::LOOPS;
 use gp_isa::{Memory, Program};
@@ -177,16 +178,57 @@ impl Place {
         while self.step(program) {}
     }
 
-    /// Goes past the statement at the place, to the next point or to the end.
-    pub(crate) fn pass(&mut self, program: &Program)
+    /// The points of a call at the place, where they all are work and at most `most`.
+    fn work_call(&self, program: &Program, most: u64) -> Option<u64>
+        ensures stands { IfSome result (IsWorkCall program.now self.now.top (reverse self.now.outer.items)) }
+        ensures few { IfSome result (λ n. n ≤ most) }
+    {
+        if most == 0 {
+            return None;
+        }
+        match self.ahead(program) {
+            Ahead::Call(f) => work_call(program, self.top.calls, f, most),
+            Ahead::End => None,
+            Ahead::Work(_) => None,
+            Ahead::Labels(_) => None,
+            Ahead::Loop(_, _) => None,
+            Ahead::Shared(_) => None,
+        }
+    }
+
+    /// A move towards the next point, which passes at most `most` points of work where a call has no others.
+    fn hop(&mut self, program: &Program, most: u64) -> Option<u64>
+        requires { IsIn program.now self.old }
+        ensures place { IsIn program.now self.new }
+        ensures few { IfSome result (λ n. n ≤ most) }
+        ensures passes { MatchOption result (left program.now (levels self.new) ≡ left program.now (levels self.old))
+            (Passes program.now (levels self.old) (levels self.new)) }
+        ensures ends { MatchOption result (IsSettled program.now self.new.top (reverse self.new.outer.items))
+            (λ _. cost program.now (levels self.new) < cost program.now (levels self.old)) }
+    {
+        if let Some(n) = self.work_call(program, most) {
+            self.skip();
+            return Some(n);
+        }
+        if self.step(program) { Some(0) } else { None }
+    }
+
+    /// Goes past the statement at the place, to the next point or to the end, and on the way passes at most `most`
+    /// points of work, so many as it says: those of calls that have no others.
+    pub(crate) fn pass(&mut self, program: &Program, most: u64) -> u64
         requires place { IsIn program.now self.old }
         requires next { self.old.top.at + 1 < 2 ^ 64 }
         ensures place { IsIn program.now self.new }
-        ensures left { left program.now (levels self.new) ≡ left program.now (stepped (levels self.old)) }
+        ensures passes { Passes program.now (stepped (levels self.old)) (levels self.new) result }
+        ensures few { result ≤ most }
         ensures settled { IsSettled program.now self.new.top (reverse self.new.outer.items) }
     {
         self.skip();
-        self.settle(program);
+        let mut passed = 0;
+        while let Some(n) = self.hop(program, most - passed) {
+            passed += n;
+        }
+        passed
     }
 
     /// Begins function `f`, with calls followed `calls` deep.

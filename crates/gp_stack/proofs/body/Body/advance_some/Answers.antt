@@ -10,15 +10,15 @@ overflow_add-self-then-n-left c =
     let w : c.args.self.now.count + c.args.n ≤ length (trace c.args.program.now c.args.self.now.start) = within_ahead (trace c.args.program.now c.args.self.now.start) c.args.self.now.count c.args.n c.requires.stands.within c.requires.ahead in
     omega arith
 
-pub overflow_add-self-else-n-left : goal.overflow_add-self-else-n-left
-overflow_add-self-else-n-left c =
+pub overflow_add-self-else-n-left-2 : goal.overflow_add-self-else-n-left-2
+overflow_add-self-else-n-left-2 c =
     let w : c.args.self.now.count + c.args.n ≤ length (trace c.args.program.now c.args.self.now.start) = within_ahead (trace c.args.program.now c.args.self.now.start) c.args.self.now.count c.args.n c.requires.stands.within c.requires.ahead in
-    omega arith
+    omega (arith, c.pass-behind.ensures.few)
 
-pub overflow_add-self-in-Labels : goal.overflow_add-self-in-Labels
-overflow_add-self-in-Labels c =
+pub overflow_add-self-in-Labels-2 : goal.overflow_add-self-in-Labels-2
+overflow_add-self-in-Labels-2 c =
     let w : c.args.self.now.count + c.args.n ≤ length (trace c.args.program.now c.args.self.now.start) = within_ahead (trace c.args.program.now c.args.self.now.start) c.args.self.now.count c.args.n c.requires.stands.within c.requires.ahead in
-    omega arith
+    omega (arith, c.pass-behind-in-Labels.ensures.few)
 
 pub unreachable-requires : goal.unreachable-requires
 unreachable-requires c =
@@ -47,10 +47,11 @@ pub returns-else-n-left-clause-stands : goal.returns-else-n-left-clause-stands
 returns-else-n-left-clause-stands c =
     let w : c.args.self.now.count + c.args.n ≤ length (trace c.args.program.now c.args.self.now.start) = within_ahead (trace c.args.program.now c.args.self.now.start) c.args.self.now.count c.args.n c.requires.stands.within c.requires.ahead in
     let part : c.args.self.now.passed < c.in-Work.of = c.requires.stands.part _ c.in-Work.ensures.ahead in
-    stands_work c.args.program.now c.args.self.now c.pass.new.self c.in-Work.of (c.in-Work.of - c.args.self.now.passed) c.in-Work.ensures.ahead c.requires.stands c.pass.ensures.place c.pass.ensures.left c.pass.ensures.settled (omega arith)
-    (omega arith)
+    stands_work c.args.program.now c.args.self.now c.pass-behind.new.self c.in-Work.of (c.in-Work.of - c.args.self.now.passed) c.pass-behind.result c.in-Work.ensures.ahead c.requires.stands c.pass-behind.ensures.place c.pass-behind.ensures.passes c.pass-behind.ensures.settled (omega arith)
+    (omega (arith, c.pass-behind.ensures.few))
 
 pub returns-in-Labels-clause-stands : goal.returns-in-Labels-clause-stands
 returns-in-Labels-clause-stands c =
     let w : c.args.self.now.count + c.args.n ≤ length (trace c.args.program.now c.args.self.now.start) = within_ahead (trace c.args.program.now c.args.self.now.start) c.args.self.now.count c.args.n c.requires.stands.within c.requires.ahead in
-    stands_labels c.args.program.now c.args.self.now c.pass-in-Labels.new.self c.in-Labels.set c.in-Labels.ensures.ahead c.requires.stands c.pass-in-Labels.ensures.place c.pass-in-Labels.ensures.left c.pass-in-Labels.ensures.settled (omega arith)
+    stands_labels c.args.program.now c.args.self.now c.pass-behind-in-Labels.new.self c.in-Labels.set c.pass-behind-in-Labels.result c.in-Labels.ensures.ahead c.requires.stands c.pass-behind-in-Labels.ensures.place c.pass-behind-in-Labels.ensures.passes c.pass-behind-in-Labels.ensures.settled
+    (omega (arith, c.pass-behind-in-Labels.ensures.few))

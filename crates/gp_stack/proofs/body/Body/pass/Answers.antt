@@ -1,6 +1,8 @@
 use Rattle.std.proofs.Common.{◌≤◌, ◌+◌, reverse, length, arith}
 use Rattle.gp_isa.specs.Trace.{trace}
 use Rattle.gp_isa.specs.declared.statement.What.TheOpen.{Call}
+use Rattle.gp_stack.specs.kept.Place.{levels, stepped}
+use Rattle.gp_stack.proofs.Passing.{none_passed}
 use Rattle.gp_stack.proofs.Stands.{settled_point, stands_shared, within_shared, no_end, no_work, no_labels}
 use Rattle.gp_stack.proofs.body.Body.pass.Goals as goal
 
@@ -28,5 +30,5 @@ unreachable-requires-in-Call c =
 
 pub returns-clause-stands : goal.returns-clause-stands
 returns-clause-stands c =
-    stands_shared c.args.program.now c.args.self.now c.pass.new.self c.in-Shared.field-0 c.in-Shared.ensures.ahead c.requires.stands c.pass.ensures.place c.pass.ensures.left c.pass.ensures.settled
+    stands_shared c.args.program.now c.args.self.now c.pass.new.self c.in-Shared.field-0 c.in-Shared.ensures.ahead c.requires.stands c.pass.ensures.place (none_passed c.args.program.now (stepped (levels c.args.self.now.place)) (levels c.pass.new.self) c.pass.result c.pass.ensures.passes c.pass.ensures.few) c.pass.ensures.settled
     (within_shared (trace c.args.program.now c.args.self.now.start) c.args.self.now.count c.requires.shared)
