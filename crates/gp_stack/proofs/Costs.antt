@@ -12,7 +12,7 @@ use Rattle.gp_stack.specs.kept.Place.{stepped, turned}
 use Rattle.gp_stack.specs.kept.Ahead.{Does}
 use Rattle.gp_stack.specs.kept.Cost.{cost_of, cost_of_body, cost_of_call, cost_here, cost}
 use Rattle.gp_stack.proofs.Levels.{drop_at, base_false}
-use Rattle.gp_stack.proofs.Moves.{moved, body_moved, loop_level, call_level, body_of_loop, body_of_call, body_turned}
+use Rattle.gp_stack.proofs.Moves.{moved, body_moved, loop_level, call_level, body_of_loop, body_of_call, body_turned, body_turning}
 
 abbrev inner_cost : (ℕ → ℕ) → ℕ → List Stmt → ℕ
 inner_cost calls zero body = 0
@@ -99,6 +99,22 @@ cost_call parts level outer k h calls d =
 here_end : (parts : Parts) (level : Level) (body : List Stmt) → length body ≤ level.at → cost_here parts level body ≡ level.turns * (1 + cost_of_body (cost_of_call parts level.calls) level.loops body) + 1
 unfolding cost_here
 here_end parts level body past = rw (drop_all level.at body past, body_nil (cost_of_call parts level.calls) level.loops) (omega arith)
+
+times_some : (k each : ℕ) → 0 < k → 0 < k * (1 + each)
+times_some zero each some = absurd (omega arith)
+times_some (suc k) each some = omega arith
+
+-- fewer turns
+pub cost_turns : (parts : Parts) (level : Level) (outer : List Level) (k r : ℕ) → length (body_at parts level outer) ≤ level.at → level.turns ≡ k + r → 0 < k → cost parts (record level { turns = r } ∷ outer) < cost parts (level ∷ outer)
+cost_turns parts level outer k r past split some =
+    let each : ℕ = cost_of_body (cost_of_call parts level.calls) level.loops (body_at parts level outer) in
+    let before : cost parts (level ∷ outer) ≡ level.turns * (1 + each) + 1 + cost parts outer =
+    cost_cons parts level outer ∙ (rw (here_end parts level (body_at parts level outer) past) refl) in
+    let after : cost parts (record level { turns = r } ∷ outer) ≡ r * (1 + each) + 1 + cost parts outer =
+    cost_cons parts (record level { turns = r }) outer ∙ (rw (body_turning parts level r outer, here_end parts (record level { turns = r }) (body_at parts level outer) past) refl) in
+    let times : level.turns * (1 + each) ≡ k * (1 + each) + r * (1 + each) = ap (λ m. m * (1 + each)) split ∙ omega arith in
+    let more : 0 < k * (1 + each) = times_some k each some in
+    omega arith
 
 here_turn : (parts : Parts) (level : Level) (body : List Stmt) (n : ℕ) → cost_here parts (record level { at = 0; turns = n }) body ≡ cost_of_body (cost_of_call parts level.calls) level.loops body + n *
     (1 + cost_of_body (cost_of_call parts level.calls) level.loops body) + 1

@@ -9,6 +9,7 @@ pub mod Climbing
 pub mod Shown
 pub mod Peeks
 pub mod Looking
+pub mod Working
 pub mod Short
 pub mod Conditions
 pub mod Deep

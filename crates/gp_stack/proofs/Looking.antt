@@ -36,17 +36,23 @@ found (s ∷ body) zero within = (s, refl)
 found (s ∷ body) (suc at) within = found body at (omega arith)
 
 -- a statement stands at each place of a body
-does_at : (body : List Stmt) (at : ℕ) → at < length body → (a : Action) × Does body at a
+pub does_at : (body : List Stmt) (at : ℕ) → at < length body → (a : Action) × Does body at a
 does_at body at within =
     let f : (s : Stmt) × (slice_get body at ≡ Some s) = found body at within in
     (action_of f.0, record { statement = f.0; stands = f.1; does = refl })
 
-on_split : (parts : Parts) (calls loops f : ℕ) (body : List Stmt) (at : ℕ) (a : Action) (d : Does body at a) → steps (points_of_all parts calls loops f (drop at body)) ≡ steps (points_of_action parts calls loops f (line_of d.statement) a) ++ steps
-    (points_of_all parts calls loops f (drop (at + 1) body))
+pub points_split : (parts : Parts) (calls loops f : ℕ) (body : List Stmt) (at : ℕ) (a : Action) (d : Does body at a) →
+    points_of_all parts calls loops f (drop at body) ≡ points_of_action parts calls loops f (line_of d.statement) a ++ points_of_all parts calls loops f (drop (at + 1) body)
 unfolding points_of_action points_of_all
-on_split parts calls loops f body at a d =
+points_split parts calls loops f body at a d =
     let next : drop at body ≡ d.statement ∷ drop (suc at) body = drop_at body at d.statement d.stands in
-    rw (next, add-one at, body_cons (points_of_call parts calls) f loops d.statement (drop (suc at) body), d.does) (map-append _ _ _)
+    rw (next, add-one at, body_cons (points_of_call parts calls) f loops d.statement (drop (suc at) body), d.does) refl
+
+on_split : (parts : Parts) (calls loops f : ℕ) (body : List Stmt) (at : ℕ) (a : Action) (d : Does body at a) →
+    steps (points_of_all parts calls loops f (drop at body)) ≡ steps (points_of_action parts calls loops f (line_of d.statement) a) ++ steps (points_of_all parts calls loops f (drop (at + 1) body))
+on_split parts calls loops f body at a d =
+    ap steps (points_split parts calls loops f body at a d) ∙
+    map-append (λ point. operation_of point.instruction) (points_of_action parts calls loops f (line_of d.statement) a) (points_of_all parts calls loops f (drop (at + 1) body))
 
 abbrev Looked : Parts → ℕ → ℕ → List Stmt → ℕ → Peek → ℕ → Type 0
 Looked parts calls loops body at seen limit =
@@ -75,7 +81,7 @@ seen_stop parts calls loops body from at limit local seen within looked sees mor
     sees_stop (steps (points_of_all parts calls loops f (drop from body))) (steps (points_of_all parts calls loops f (drop at body))) (steps (points_of_action parts calls loops f (line_of d.1.statement) d.0))
     (steps (points_of_all parts calls loops f (drop (at + 1) body))) limit local seen (sees f) (on_split parts calls loops f body at d.0 d.1) (looked f (line_of d.1.statement) d.0 d.1) more
 
-all_nil : (parts : Parts) (calls loops f : ℕ) → points_of_all parts calls loops f [] ≡ []
+pub all_nil : (parts : Parts) (calls loops f : ℕ) → points_of_all parts calls loops f [] ≡ []
 unfolding points_of_all
 all_nil parts calls loops f = body_nil (points_of_call parts calls) f loops
 
@@ -112,7 +118,7 @@ turns_times parts calls loops n limit f body once all is over times =
     times ∙ ap (λ xs. peek_of xs limit) (sym (times_local n once.local points local))
 
 -- what stands at a place is one statement
-known : (P : Action → Type 0) (body : List Stmt) (at : ℕ) (b : Action) → Does body at b → P b → (a : Action) → Does body at a → P a
+pub known : (P : Action → Type 0) (body : List Stmt) (at : ℕ) (b : Action) → Does body at b → P b → (a : Action) → Does body at a → P a
 known P body at b d p a e = subst P (does_one body at b a d e) p
 
 steps_work : (n : ℕ) (p : Point) → operation_of p.instruction ≡ None → steps (replicate n p) ≡ replicate n None

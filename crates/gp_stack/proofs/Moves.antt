@@ -162,7 +162,7 @@ pub added_no_loop : (parts : Parts) (level : Level) (line n end : ℕ) (body : L
 added_no_loop parts level line n end body none = rw none (repeated_none n)
 
 -- the end of a level
-here_end : (parts : Parts) (level : Level) (body : List Stmt) → length body ≤ level.at → left_here parts level body ≡ repeated level.turns (points_of_statements parts level body)
+pub here_end : (parts : Parts) (level : Level) (body : List Stmt) → length body ≤ level.at → left_here parts level body ≡ repeated level.turns (points_of_statements parts level body)
 unfolding left_here
 here_end parts level body past = rw (drop_all level.at body past) refl
 
@@ -174,6 +174,11 @@ pub body_turned : (parts : Parts) (level : Level) (n : ℕ) (outer : List Level)
 unfolding body_at
 body_turned parts level n [] = refl
 body_turned parts level n (o ∷ outer) = refl
+
+pub body_turning : (parts : Parts) (level : Level) (n : ℕ) (outer : List Level) → body_at parts (record level { turns = n }) outer ≡ body_at parts level outer
+unfolding body_at
+body_turning parts level n [] = refl
+body_turning parts level n (o ∷ outer) = refl
 
 pub left_turned : (parts : Parts) (level : Level) (outer : List Level) (n : ℕ) → length (body_at parts level outer) ≤ level.at → level.turns ≡ n → left parts (turned n level outer) ≡ left parts (level ∷ outer)
 left_turned parts level outer zero past turns =

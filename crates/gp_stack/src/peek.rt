@@ -216,6 +216,64 @@ fn look_times(once: u64, n: u32, limit: u64) -> Peek
     }
 }
 
+/// How many points statement `at` has where all are work and at most `most`, with calls and loops followed so deep.
+#[cycle(work)]
+fn work_at(
+    program: &Program,
+    calls: u16,
+    loops: u8,
+    statements: &[Stmt],
+    at: usize,
+    most: u64,
+) -> Option<u64>
+    requires { loops ≤ most_loops }
+    ensures work { IfSome result (λ n. (f line : ℕ) (a : Action) → Does statements.now at a →
+        AreWork (points_of_action program.now calls loops f line a) n) }
+    ensures few { IfSome result (λ n. n ≤ most) }
+{
+    match statement_at(statements, at) {
+        Ahead::Work(n) => at_most(n as u64, most),
+        Ahead::Call(f) => work_call(program, calls, f, most),
+        Ahead::Loop(n, inner) => {
+            if loops == 0 {
+                return None;
+            }
+            let once = work_on(program, calls, loops - 1, inner, most)?;
+            at_most(once.checked_mul(n as u64)?, most)
+        }
+        Ahead::End => None,
+        Ahead::Labels(_) => None,
+        Ahead::Shared(_) => None,
+    }
+}
+
+/// How many points statements have where all are work and at most `most`.
+#[cycle(work)]
+pub(crate) fn work_on(
+    program: &Program,
+    calls: u16,
+    loops: u8,
+    statements: &[Stmt],
+    most: u64,
+) -> Option<u64>
+    requires { loops ≤ most_loops }
+    ensures work { IfSome result (λ n. (f : ℕ) → AreWork (points_of_all program.now calls loops f statements.now) n) }
+    ensures few { IfSome result (λ n. n ≤ most) }
+{
+    let mut points = 0;
+    for at in 0..statements.len() {
+        points += work_at(program, calls, loops, statements, at, most - points)?;
+    }
+    Some(points)
+}
+
+/// A number, where it is at most `most`.
+fn at_most(n: u64, most: u64) -> Option<u64>
+    ensures { IfSome result (λ k. (k ≡ n) × (n ≤ most)) }
+{
+    if n <= most { Some(n) } else { None }
+}
+
 /// The points that are left of a level, `outer` being the levels around it.
 pub(crate) fn look_level(program: &Program, level: Level, outer: &[Level], limit: u64) -> Peek
     requires { level.loops ≤ most_loops }

@@ -8,10 +8,11 @@ ghost use Rattle.gp_stack.specs.kept.Ahead.{IsAhead, HasNext};
 ghost use Rattle.gp_stack.specs.kept.Looks.{peek_of, steps};
 ghost use Rattle.gp_stack.specs.declared.statement.Operation.{Operation};
 ghost use Rattle.gp_stack.specs.kept.Cost.{cost};
-ghost use Rattle.gp_stack.specs.kept.Passing.{Passes, IsWorkCall};
+ghost use Rattle.gp_stack.specs.kept.Passing.{Passes, IsWorkCall, IsWorkTurn};
+ghost use Rattle.gp_isa.specs.Limits.{most_loops};
 
 use crate::level::{Level, body};
-use crate::peek::{Peek, Then, look_level, work_call};
+use crate::peek::{Peek, Then, look_level, work_call, work_on};
 use crate::statement::{Ahead, statement_at};
 use gp_isa::limits::LOOPS;
 use gp_isa::{Memory, Program};
@@ -196,7 +197,40 @@ impl Place {
         }
     }
 
-    /// A move towards the next point, which passes at most `most` points of work where a call has no others.
+    /// The points of a turn of the level at whose end the place is, where it comes again and they all are work and at
+    /// most `most`.
+    fn work_turn(&self, program: &Program, most: u64) -> Option<u64>
+        requires { self.now.top.loops ≤ most_loops }
+        ensures stands { IfSome result (IsWorkTurn program.now self.now.top (reverse self.now.outer.items)) }
+        ensures few { IfSome result (λ n. n ≤ most) }
+    {
+        if self.top.turns == 0 {
+            return None;
+        }
+        let body = body(program.parts(), self.top, self.outer.as_slice());
+        if self.top.at < body.len() {
+            return None;
+        }
+        let once = work_on(program, self.top.calls, self.top.loops, body, most)?;
+        if once == 0 { None } else { Some(once) }
+    }
+
+    /// Takes so many turns of the level at whose end the place is as have at most `most` points, all of them work, and
+    /// says how many points.
+    fn take_turns(&mut self, program: &Program, most: u64) -> Option<u64>
+        requires { IsIn program.now self.old }
+        ensures place { IsIn program.now self.new }
+        ensures few { IfSome result (λ n. n ≤ most) }
+        ensures passes { MatchOption result (levels self.new ≡ levels self.old) (Passes program.now (levels self.old) (levels self.new)) }
+        ensures falls { IfSome result (λ _. cost program.now (levels self.new) < cost program.now (levels self.old)) }
+    {
+        let once = self.work_turn(program, most)?;
+        let turns = (most / once).min(self.top.turns as u64);
+        self.top.turns -= turns as u32;
+        Some(turns * once)
+    }
+
+    /// A move towards the next point, which passes at most `most` points of work where a call or turns have no others.
     fn hop(&mut self, program: &Program, most: u64) -> Option<u64>
         requires { IsIn program.now self.old }
         ensures place { IsIn program.now self.new }
@@ -210,11 +244,14 @@ impl Place {
             self.skip();
             return Some(n);
         }
+        if let Some(n) = self.take_turns(program, most) {
+            return Some(n);
+        }
         if self.step(program) { Some(0) } else { None }
     }
 
     /// Goes past the statement at the place, to the next point or to the end, and on the way passes at most `most`
-    /// points of work, so many as it says: those of calls that have no others.
+    /// points of work, so many as it says: those of calls and of turns that have no others.
     pub(crate) fn pass(&mut self, program: &Program, most: u64) -> u64
         requires place { IsIn program.now self.old }
         requires next { self.old.top.at + 1 < 2 ^ 64 }

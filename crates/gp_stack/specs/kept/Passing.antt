@@ -1,24 +1,35 @@
 -- Points of work that are passed many at once.
-use Rattle.std.specs.Prelude.{◌≡◌, ◌<◌, ◌+◌, ◌^◌, ℕ, true, List, ◌++◌, length}
+use Rattle.std.specs.Prelude.{◌≡◌, ◌≤◌, ◌<◌, ◌+◌, ◌^◌, ℕ, true, List, ◌++◌, length}
 use Rattle.gp_isa.specs.Size.{is_work, all_pass}
 use Rattle.gp_isa.specs.Trace.{Point}
 use Rattle.gp_isa.specs.declared.parts.Parts.{Parts}
 use Rattle.gp_isa.specs.declared.statement.What.TheOpen.{Call}
 use Rattle.gp_stack.specs.declared.level.Level.{Level}
 use Rattle.gp_stack.specs.kept.Ahead.{Does}
-use Rattle.gp_stack.specs.kept.Level.{points_of_call, body_at, left}
+use Rattle.gp_stack.specs.kept.Level.{points_of_call, points_of_statements, body_at, left}
 
--- From some levels to others so many points were passed, all of them work.
-pub record Passes (parts : Parts) (before after : List Level) (n : ℕ) : Type 0 where
+-- Some points begin with so many points of work, and then come the others.
+pub record WorkBefore (whole rest : List Point) (n : ℕ) : Type 0 where
   pub points : List Point
-  pub split : left parts before ≡ points ++ left parts after
+  pub split : whole ≡ points ++ rest
   pub count : length points ≡ n
   pub work : all_pass is_work points ≡ true
+
+-- From some levels to others so many points of work are passed.
+abbrev pub Passes : Parts → List Level → List Level → ℕ → Type 0
+Passes parts before after n = WorkBefore (left parts before) (left parts after) n
 
 -- so many points, all of them work
 pub record AreWork (points : List Point) (n : ℕ) : Type 0 where
   pub count : length points ≡ n
   pub work : all_pass is_work points ≡ true
+
+-- A level is at its end, its body still comes again, and has so many points, all of them work.
+pub record IsWorkTurn (parts : Parts) (level : Level) (outer : List Level) (n : ℕ) : Type 0 where
+  pub over : length (body_at parts level outer) ≤ level.at
+  pub again : 0 < level.turns
+  pub some : 0 < n
+  pub work : AreWork (points_of_statements parts level (body_at parts level outer)) n
 
 -- a call stands at a level that has so many points, all of them work
 pub record IsWorkCall (parts : Parts) (level : Level) (outer : List Level) (n : ℕ) : Type 0 where

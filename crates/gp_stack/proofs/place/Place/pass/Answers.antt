@@ -1,8 +1,9 @@
 use Rattle.std.proofs.Common.{rules, ◌≡◌, ◌+◌, ◌≤◌, ◌-◌, List, refl, subst, arith}
 use Rattle.gp_stack.specs.declared.level.Level.{Level}
+use Rattle.gp_stack.specs.kept.Level.{left}
 use Rattle.gp_stack.specs.kept.Place.{levels}
 use Rattle.gp_stack.specs.kept.Passing.{Passes}
-use Rattle.gp_stack.proofs.Passing.{passes_none, passes_more}
+use Rattle.gp_stack.proofs.Passing.{passes_none, work_more}
 use Rattle.gp_stack.proofs.place.Place.pass.Goals as goal
 
 pub loop-n-init : goal.loop-n-init
@@ -15,7 +16,7 @@ loop-n-init c = record {
 pub loop-n-preserved : goal.loop-n-preserved
 loop-n-preserved c = record {
   place = c.hop.ensures.place;
-  passes = passes_more c.args.program.now (levels c.skip.new.self) (levels c.loop-n.self) (levels c.hop.new.self) c.loop-n.passed c.in-Some.n c.loop-n.invariant.passes c.in-Some.ensures.passes;
+  passes = work_more (left c.args.program.now (levels c.skip.new.self)) (left c.args.program.now (levels c.loop-n.self)) (left c.args.program.now (levels c.hop.new.self)) c.loop-n.passed c.in-Some.n c.loop-n.invariant.passes c.in-Some.ensures.passes;
   few = let more : c.in-Some.n ≤ c.args.most - c.loop-n.passed = c.in-Some.ensures.few in omega (arith, c.loop-n.invariant.few);
 }
 
@@ -24,5 +25,5 @@ returns-clause-passes c =
     let all : c.loop-n.passed + 0 ≡ c.loop-n.passed = omega arith in
     subst (λ (before : List Level). Passes c.args.program.now before (levels c.hop.new.self) c.loop-n.passed) c.skip.ensures.levels
     (subst (λ n. Passes c.args.program.now (levels c.skip.new.self) (levels c.hop.new.self) n) all
-    (passes_more c.args.program.now (levels c.skip.new.self) (levels c.loop-n.self) (levels c.hop.new.self) c.loop-n.passed 0 c.loop-n.invariant.passes
+    (work_more (left c.args.program.now (levels c.skip.new.self)) (left c.args.program.now (levels c.loop-n.self)) (left c.args.program.now (levels c.hop.new.self)) c.loop-n.passed 0 c.loop-n.invariant.passes
     (passes_none c.args.program.now (levels c.loop-n.self) (levels c.hop.new.self) c.in_default.ensures.passes)))
