@@ -2,10 +2,11 @@
 //!
 //! The value of a `Machine` is the journal, and beside it it keeps the present state in place (`Present`): the
 //! goroutines with their counts (`Goroutines`), the queue of the runnable (`Queue`), the wait lists of `gp_sync`, the
-//! workers, the clock and the requests. `apply` makes one legal entry, and what it answers is that of the definitions;
-//! `specs/kept/` says what is kept. Each call takes constant time, however many goroutines
-//! there are: from the queue, a ring of links by number, any goroutine may leave, and who has still to be recorded
-//! stands in a bitmap that tells its least number (`IdSet`). Only `Machine::new` takes memory.
+//! workers with the number of those that run one (`Workers`), the clock and the requests. `apply` makes one legal entry,
+//! changes in place what that names and nothing else, and answers what the definitions tell; `specs/kept/` says what is
+//! kept. Each call takes constant time, however many goroutines there are: from the queue, a ring of links by number, any
+//! goroutine may leave, and who has still to be recorded stands in a bitmap that tells its least number (`IdSet`). Only
+//! `busy_at` looks at the workers one after another, who are at most 16, and only `Machine::new` takes memory.
 //!
 //! What is kept before and after one entry, with three cells and one worker: goroutine 0 unlocks a mutex for which 1
 //! and 2 have waited since clock 1000.

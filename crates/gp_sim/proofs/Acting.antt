@@ -1,5 +1,5 @@
 -- What actors do, as the code finds it.
-use Rattle.std.proofs.Common.{◌≡◌, ◌⊎◌, inl, inr, ◌<◌, ◌≤◌, ◌+◌, ℕ, Bool, true, false, ◌||◌, not, ◌==◌, true≢false, List, [], ◌∷◌, get_or, min, Option, Some, None, is_some, refl, sym, ap, ◌∙◌, subst, arith, if◌then◌else◌, nat_lt}
+use Rattle.std.proofs.Common.{◌≡◌, ◌⊎◌, inl, inr, ◌<◌, ◌≤◌, ◌+◌, ℕ, Bool, true, false, ◌||◌, not, ◌==◌, true≢false, List, get_or, min, Option, Some, None, is_some, refl, sym, ap, ◌∙◌, subst, arith, if◌then◌else◌, nat_lt}
 use Rattle.std.proofs.lemmas.Bool.{cases_lt}
 use Rattle.gp_isa.specs.declared.parts.Parts.{Parts}
 use Rattle.gp_isa.specs.Trace.{Point, trace, is_local}
@@ -18,7 +18,7 @@ use Rattle.gp_journal.specs.Due.{asked, over, due, extent, next_instruction}
 use Rattle.gp_journal.specs.May.{IsDue}
 use Rattle.gp_journal.specs.Reached.{IsReached}
 use Rattle.gp_journal.specs.Standing.{head_of}
-use Rattle.gp_journal.specs.Shown.{IsPeekAt, IsPointOf, IsGiven}
+use Rattle.gp_journal.specs.Shown.{IsPeekAt, IsGiven}
 use Rattle.gp_journal.specs.Bodies.{nowhere, AreBodiesOf}
 use Rattle.gp_journal.proofs.Lemmas.{op_at_shared, point_is}
 use Rattle.gp_machine.proofs.Peeked.{ahead_local}
@@ -62,11 +62,11 @@ peek_is program s g bodies peek are live local follows = record {
 }
 
 -- at a shared point no local one is ahead
-pub none_ahead : (points : List Point) (count local : ℕ) (then : Then) → local ≡ min quantum (local_ahead points count) → then ≡ then_at points (count + local) → IsAtShared points count → local ≡ 0
-none_ahead points count local then so_many comes at = by (cases_lt 0 local)
+pub none_ahead : (points : List Point) (count local : ℕ) (found : Then) → local ≡ min quantum (local_ahead points count) → found ≡ then_at points (count + local) → IsAtShared points count → local ≡ 0
+none_ahead points count local found so_many comes at = by (cases_lt 0 local)
   where
     by : (0 < local) ⊎ (local ≤ 0) → local ≡ 0
-    by (inl some) = absurd (true≢false (sym (ahead_local points count local then (record { so_many = so_many; comes = comes }) some) ∙ at.shared))
+    by (inl some) = absurd (true≢false (sym (ahead_local points count local found (record { so_many = so_many; comes = comes }) some) ∙ at.shared))
     by (inr none) = omega arith
 
 -- An Op that is due is the goroutine's own.

@@ -1,11 +1,10 @@
 -- One of some actions is chosen.
-use Rattle.std.proofs.Common.{◌≡◌, ◌<◌, ◌≤◌, ◌+◌, ◌%◌, ℕ, Bool, true, false, ◌==◌, List, [], ◌∷◌, length, get_or, Some, None, refl, sym, ap, ◌∙◌, subst, arith, if◌then◌else◌}
+use Rattle.std.proofs.Common.{◌≡◌, ◌<◌, ◌≤◌, ◌+◌, ◌%◌, ℕ, Bool, true, false, ◌==◌, List, [], ◌∷◌, length, get_or, Option, Some, None, refl, sym, ap, subst, arith, if◌then◌else◌}
 use Rattle.std.proofs.lemmas.Bool.{eqb-true, eqb-false}
 use Rattle.std.proofs.lemmas.List.{get_or_read}
 use Rattle.gp_journal.specs.declared.entry.Entry.{Entry}
 use Rattle.gp_journal.specs.declared.settings.Settings.{Settings}
 use Rattle.gp_sim.specs.declared.numbers.Draw.{Draw}
-use Rattle.gp_sim.specs.declared.numbers.Turn.{Turn}
 use Rattle.gp_sim.specs.Choice.{number, chosen}
 use Rattle.gp_sim.specs.kept.Numbers.{drawn_of}
 
@@ -27,16 +26,20 @@ more_there settings taken (one ∷ other ∷ more) entry e is =
     ap (λ (x : Entry). Some (record { entry = x; taken = taken + 1 }))
     (sym (get_or_read among (number settings taken % length among) entry (omega arith) is one))
 
+-- what is drawn, by the tests of how many there are
+abbrev drawn_by : Settings → ℕ → ℕ → Bool → Bool → Option Draw
+drawn_by settings taken among none single =
+    if none then None else if single then Some (record { place = 0; taken = taken }) else Some (record { place = number settings taken % among; taken = taken + 1 })
+
 draw_is : {a b : Draw} → Some a ≡ Some b → a ≡ b
 draw_is e = cc
 
--- what is drawn, by the tests of how many there are
 by_tests : (settings : Settings) (taken among : ℕ) (P : Draw → Type 0) → ((among ≡ 1) → P (record { place = 0; taken = taken })) → (2 ≤ among → P (record { place = number settings taken % among; taken = taken + 1 })) →
     (draw : Draw) → drawn_of settings taken among ≡ Some draw → P draw
 by_tests settings taken among P one more draw e = at (among == 0) refl (among == 1) refl e
   where
     at : (none : Bool) → (among == 0) ≡ none → (single : Bool) → (among == 1) ≡ single →
-        (if none then None else if single then Some (record { place = 0; taken = taken }) else Some (record { place = number settings taken % among; taken = taken + 1 })) ≡ Some draw → P draw
+        drawn_by settings taken among none single ≡ Some draw → P draw
     at true e0 single e1 e = absurd (cc)
     at false e0 true e1 e = subst P (draw_is e) (one (eqb-true among 1 e1))
     at false e0 false e1 e =
@@ -66,7 +69,7 @@ pub none_chosen_of : (settings : Settings) (taken : ℕ) (entries : List Entry) 
 none_chosen_of settings taken entries e = none_there settings taken entries (at (length entries == 0) refl (length entries == 1) e)
   where
     at : (none : Bool) → (length entries == 0) ≡ none → (single : Bool) →
-        (if none then None else if single then Some (record { place = 0; taken = taken }) else Some (record { place = number settings taken % length entries; taken = taken + 1 })) ≡ None → length entries ≡ 0
+        drawn_by settings taken (length entries) none single ≡ None → length entries ≡ 0
     at true e0 single e = eqb-true (length entries) 0 e0
     at false e0 true e = absurd (cc)
     at false e0 false e = absurd (cc)

@@ -1,7 +1,8 @@
 -- At which place the action of an actor stands among those of all that can act.
-use Rattle.std.proofs.Common.{◌≡◌, ◌<◌, ◌+◌, ℕ, zero, suc, Bool, true, false, true≢false, cond, List, [], ◌∷◌, length, get_or, take, drop, count_by, Option, Some, None, is_some, refl, sym, ap, ◌∙◌, subst, arith}
+use Rattle.std.proofs.Common.{◌≡◌, ◌<◌, ◌≤◌, ◌+◌, ℕ, zero, suc, Bool, true, false, true≢false, cond, List, [], ◌∷◌, length, get_or, take, drop, count_by, Option, Some, None, is_some, refl, sym, ap, ◌∙◌, arith}
 use Rattle.std.proofs.lemmas.List.{get_or-drop, length-take-le}
-use Rattle.std.proofs.lemmas.List.Sums.{sum_by-cons}
+use Rattle.std.proofs.lemmas.List.Sums.{sum_by-cons, count_by-le-length}
+use mir.Val.{bool_byte}
 use Rattle.gp_journal.specs.declared.entry.Entry.{Entry}
 use Rattle.gp_journal.specs.declared.goroutine.Worker.{Worker}
 use Rattle.gp_journal.specs.declared.settings.Settings.{Settings}
@@ -9,10 +10,10 @@ use Rattle.gp_journal.specs.Settings.{AreInRange}
 use Rattle.gp_journal.specs.State.{Code, State, resting, worker}
 use Rattle.gp_journal.specs.Reached.{IsReached}
 use Rattle.gp_journal.proofs.Lemmas.{is_kept}
-use Rattle.gp_machine.specs.OnWorker.{is_busy, busy, IsBusyAt}
+use Rattle.gp_machine.specs.OnWorker.{busy, IsBusyAt}
 use Rattle.gp_machine.proofs.Ending.{one_less}
 use Rattle.gp_sim.specs.Choice.{worker_action, profiler_action, with_action, actions_from, actions}
-use Rattle.gp_sim.specs.kept.Acting.{idle_head, can_act, able, IsAble, IsAbleAt}
+use Rattle.gp_sim.specs.kept.Acting.{idle_head, can_act, able, IsAbleAt}
 use Rattle.gp_sim.proofs.Acting.{acts}
 
 with_length : (o : Option Entry) (rest : List Entry) → length (with_action o rest) ≡ cond (is_some o) 1 0 + length rest
@@ -51,7 +52,7 @@ module _ (code : Code) (settings : Settings) (s : State) where
   counted [] w e = omega arith
   counted (v ∷ vs) w e =
       let rest = counted vs (suc w) (rest_is w v vs e) in
-      let one = ap (λ b. cond b 1 0) (does w v vs e) in
+      let one : cond {A = ℕ} (is_some (worker_action code settings s w)) 1 0 ≡ cond {A = ℕ} (can_act (idle_head settings s) v) 1 0 = ap (λ b. cond {A = ℕ} b 1 0) (does w v vs e) in
       omega (arith, with_length (worker_action code settings s w) (actions_from code settings s (suc w) (length vs)), sum_by-cons (λ (x : Worker). cond (can_act (idle_head settings s) x) 1 0) v vs)
 
   found : (vs : List Worker) (w : ℕ) → drop w s.workers ≡ vs → (j : ℕ) → j < length vs → can_act (idle_head settings s) (get_or vs j resting) ≡ true → (d : Entry) →
@@ -62,7 +63,7 @@ module _ (code : Code) (settings : Settings) (s : State) where
       ap (worker_action code settings s) same ∙ first_is (worker_action code settings s w) (actions_from code settings s (suc w) (length vs)) d (does w v vs e ∙ can_j)
   found (v ∷ vs) w e (suc j) within can_j d =
       let same : w + suc j ≡ suc w + j = omega arith in
-      let one = ap (λ b. cond b 1 0) (does w v vs e) in
+      let one : cond {A = ℕ} (is_some (worker_action code settings s w)) 1 0 ≡ cond {A = ℕ} (can_act (idle_head settings s) v) 1 0 = ap (λ b. cond {A = ℕ} b 1 0) (does w v vs e) in
       ap (worker_action code settings s) same
       ∙ found vs (suc w) (rest_is w v vs e) j (omega arith) can_j d
       ∙ ap Some (sym (behind_it (worker_action code settings s w) (actions_from code settings s (suc w) (length vs)) _ (count_by (can_act (idle_head settings s)) (take j vs)) d
@@ -72,7 +73,7 @@ module _ (code : Code) (settings : Settings) (s : State) where
       entry ≡ get_or (actions_from code settings s w (length vs)) (count_by (can_act (idle_head settings s)) vs) d
   last_is [] w e d entry is = ap (λ o. get_or (with_action o []) 0 d) (sym is)
   last_is (v ∷ vs) w e d entry is =
-      let one = ap (λ b. cond b 1 0) (does w v vs e) in
+      let one : cond {A = ℕ} (is_some (worker_action code settings s w)) 1 0 ≡ cond {A = ℕ} (can_act (idle_head settings s) v) 1 0 = ap (λ b. cond {A = ℕ} b 1 0) (does w v vs e) in
       last_is vs (suc w) (rest_is w v vs e) d entry is
       ∙ sym (behind_it (worker_action code settings s w) (actions_from code settings s (suc w) (length vs)) _ (count_by (can_act (idle_head settings s)) vs) d
       (omega (arith, sum_by-cons (λ (x : Worker). cond (can_act (idle_head settings s) x) 1 0) v vs)))
@@ -87,11 +88,24 @@ module _ (code : Code) (settings : Settings) (s : State) where
     all_actions = ap (actions_from code settings s 0) as_many
 
     -- how many actors can act
-    pub actions_counted : length (actions code settings s) ≡ able settings s + cond (is_some (profiler_action settings s)) 1 0
+    actions_counted : length (actions code settings s) ≡ able settings s + cond (is_some (profiler_action settings s)) 1 0
     actions_counted =
         let e = counted s.workers 0 refl in
         let p = with_length (profiler_action settings s) [] in
         omega (arith, ap length all_actions)
+
+    pub total_is : (workers : ℕ) (b : Bool) → workers ≡ able settings s → b ≡ is_some (profiler_action settings s) → workers + bool_byte b ≡ length (actions code settings s)
+    total_is workers b workers_are b_is =
+        let one : bool_byte b ≡ cond (is_some (profiler_action settings s)) 1 0 = byte_is b ∙ ap (λ x. cond x 1 0) b_is in
+        omega (arith, actions_counted)
+      where
+        byte_is : (x : Bool) → bool_byte x ≡ cond x 1 0
+        byte_is true = refl
+        byte_is false = refl
+
+    -- there are few of them
+    pub few_able : able settings s ≤ settings.workers
+    few_able = omega (arith, as_many, count_by-le-length (can_act (idle_head settings s)) s.workers)
 
     -- the action of a worker at its place
     pub worker_there : (place w : ℕ) (entry : Entry) → IsAbleAt settings s place w → worker_action code settings s w ≡ Some entry → entry ≡ get_or (actions code settings s) place entry

@@ -186,6 +186,7 @@ pub(crate) fn next_step<R: Run>(
     ensures more { IfSome result (λ step. numbers.now ≤ step.turn.taken) }
     ensures one { IfSome result (λ step. step.turn.taken ≤ numbers.now + 1) }
 {
+    let _ = machine.journal();
     let head = idle_head(machine);
     let workers = able(machine, settings, head);
     let profiler = profiler_acts(machine) as u32;

@@ -6,42 +6,42 @@ use Rattle.gp_sim.specs.kept.Simulation.{SoFar}
 use Rattle.gp_sim.proofs.Turns.{begins, took_turn, took_none}
 use Rattle.gp_sim.proofs.full_run.simulate.Goals as goal
 
-pub loop-actions_to-init : goal.loop-actions_to-init
-loop-actions_to-init g c = record {
+pub loop-simulation-init : goal.loop-simulation-init
+loop-simulation-init g c = record {
   part = rw c.in_ok-simulation.ensures (begins (code_of g.R.Run.program) g.R.Run.settings);
   counted = let none = ap (λ (s : SoFar). length s.journal) c.in_ok-simulation.ensures in omega arith;
 }
 
-pub loop-actions_to-smaller : goal.loop-actions_to-smaller
-loop-actions_to-smaller g c =
+pub loop-simulation-smaller : goal.loop-simulation-smaller
+loop-simulation-smaller g c =
     let range = subst AreInRange c.requires.settings c.requires.range in
-    let took = took_turn (code_of g.R.Run.program) g.R.Run.settings c.loop-actions_to.simulation c.turn.new.self c.in_ok-turn.field-0 range c.loop-actions_to.invariant.part c.in_ok-turn.ensures.turn c.if-branch.true in
+    let took = took_turn (code_of g.R.Run.program) g.R.Run.settings c.loop-simulation.simulation c.turn.new.self c.in_ok-turn.field-0 range c.loop-simulation.invariant.part c.in_ok-turn.ensures.turn c.if-branch.true in
     omega (arith, took.longer, took.within)
 
-pub loop-actions_to-preserved : goal.loop-actions_to-preserved
-loop-actions_to-preserved g c =
+pub loop-simulation-preserved : goal.loop-simulation-preserved
+loop-simulation-preserved g c =
     let range = subst AreInRange c.requires.settings c.requires.range in
-    let took = took_turn (code_of g.R.Run.program) g.R.Run.settings c.loop-actions_to.simulation c.turn.new.self c.in_ok-turn.field-0 range c.loop-actions_to.invariant.part c.in_ok-turn.ensures.turn c.if-branch.true in
+    let took = took_turn (code_of g.R.Run.program) g.R.Run.settings c.loop-simulation.simulation c.turn.new.self c.in_ok-turn.field-0 range c.loop-simulation.invariant.part c.in_ok-turn.ensures.turn c.if-branch.true in
     record {
       part = took.part;
-      counted = omega (arith, took.longer, c.loop-actions_to.invariant.counted);
+      counted = omega (arith, took.longer, c.loop-simulation.invariant.counted);
     }
 
 pub returns-clause-journal : goal.returns-clause-journal
 returns-clause-journal g c =
     let range = subst AreInRange c.requires.settings c.requires.range in
-    let ended = took_none (code_of g.R.Run.program) g.R.Run.settings c.loop-actions_to.simulation c.turn.new.self c.in_ok-turn.field-0 range c.loop-actions_to.invariant.part c.in_ok-turn.ensures.turn c.if-branch.false in
+    let ended = took_none (code_of g.R.Run.program) g.R.Run.settings c.loop-simulation.simulation c.turn.new.self c.in_ok-turn.field-0 range c.loop-simulation.invariant.part c.in_ok-turn.ensures.turn c.if-branch.false in
     c.end.ensures.machine ∙ ap (λ (s : SoFar). s.journal) ended.same ∙ sym ended.all
 
 pub returns-clause-finished : goal.returns-clause-finished
 returns-clause-finished g c =
     let range = subst AreInRange c.requires.settings c.requires.range in
-    let ended = took_none (code_of g.R.Run.program) g.R.Run.settings c.loop-actions_to.simulation c.turn.new.self c.in_ok-turn.field-0 range c.loop-actions_to.invariant.part c.in_ok-turn.ensures.turn c.if-branch.false in
+    let ended = took_none (code_of g.R.Run.program) g.R.Run.settings c.loop-simulation.simulation c.turn.new.self c.in_ok-turn.field-0 range c.loop-simulation.invariant.part c.in_ok-turn.ensures.turn c.if-branch.false in
     rw (c.end.ensures.machine, ended.same) ended.finished
 
 pub returns-clause-frozen : goal.returns-clause-frozen
 returns-clause-frozen g c =
     let range = subst AreInRange c.requires.settings c.requires.range in
-    let ended = took_none (code_of g.R.Run.program) g.R.Run.settings c.loop-actions_to.simulation c.turn.new.self c.in_ok-turn.field-0 range c.loop-actions_to.invariant.part c.in_ok-turn.ensures.turn c.if-branch.false in
+    let ended = took_none (code_of g.R.Run.program) g.R.Run.settings c.loop-simulation.simulation c.turn.new.self c.in_ok-turn.field-0 range c.loop-simulation.invariant.part c.in_ok-turn.ensures.turn c.if-branch.false in
     rw (c.end.ensures.machine, c.end.ensures.records, ended.same)
-    (records_are_frozen (code_of g.R.Run.program) g.R.Run.settings c.loop-actions_to.simulation.journal ended.finished.legal ended.finished.complete.none_active)
+    (records_are_frozen (code_of g.R.Run.program) g.R.Run.settings c.loop-simulation.simulation.journal ended.finished.legal ended.finished.complete.none_active)

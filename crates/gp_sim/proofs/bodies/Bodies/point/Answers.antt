@@ -4,20 +4,20 @@ use Rattle.gp_stack.proofs.Coming.{told, at_shared, not_local, not_over}
 use Rattle.gp_journal.specs.Bodies.{nowhere}
 use Rattle.gp_sim.proofs.bodies.Bodies.point.Goals as goal
 
-pub unreachable-requires : goal.unreachable-requires
-unreachable-requires g c =
+pub returns-in-Shared : goal.returns-in-Shared
+returns-in-Shared g c = λ shared.
     let p = get_or c.args.self.now c.args.g nowhere in
-    let tells = told (trace g.R.Run.program p.start) p.count c.peek.result.local c.peek.result.then c.peek.ensures.then (let few = c.peek.ensures.local in omega arith) in
-    not_local (trace g.R.Run.program p.start) p.count c.requires.shared c.peek.result.then tells c.in-Local.is
+    let tells = told (trace g.R.Run.program p.start) p.count c.args.peek.local c.args.peek.then c.requires.then (let none = c.requires.local shared in omega arith) in
+    (at_shared (trace g.R.Run.program p.start) p.count shared c.args.peek.then tells c.in-Shared.operation c.in-Shared.is, c.labels.ensures)
 
-pub unreachable-requires-in-Over : goal.unreachable-requires-in-Over
-unreachable-requires-in-Over g c =
+pub returns-in-Local : goal.returns-in-Local
+returns-in-Local g c = λ shared.
     let p = get_or c.args.self.now c.args.g nowhere in
-    let tells = told (trace g.R.Run.program p.start) p.count c.peek.result.local c.peek.result.then c.peek.ensures.then (let few = c.peek.ensures.local in omega arith) in
-    not_over (trace g.R.Run.program p.start) p.count c.requires.shared c.peek.result.then tells c.in-Over.is
+    let tells = told (trace g.R.Run.program p.start) p.count c.args.peek.local c.args.peek.then c.requires.then (let none = c.requires.local shared in omega arith) in
+    not_local (trace g.R.Run.program p.start) p.count shared c.args.peek.then tells c.in-Local.is
 
-pub returns-clause-operation : goal.returns-clause-operation
-returns-clause-operation g c =
+pub returns-in-Over : goal.returns-in-Over
+returns-in-Over g c = λ shared.
     let p = get_or c.args.self.now c.args.g nowhere in
-    let tells = told (trace g.R.Run.program p.start) p.count c.peek.result.local c.peek.result.then c.peek.ensures.then (let few = c.peek.ensures.local in omega arith) in
-    at_shared (trace g.R.Run.program p.start) p.count c.requires.shared c.peek.result.then tells c.in-Shared.operation c.in-Shared.is
+    let tells = told (trace g.R.Run.program p.start) p.count c.args.peek.local c.args.peek.then c.requires.then (let none = c.requires.local shared in omega arith) in
+    not_over (trace g.R.Run.program p.start) p.count shared c.args.peek.then tells c.in-Over.is

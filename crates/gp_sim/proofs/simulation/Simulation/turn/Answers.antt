@@ -1,7 +1,6 @@
-use Rattle.std.proofs.Common.{◌≡◌, Some, sym, ap, ◌∙◌}
+use Rattle.std.proofs.Common.{ap}
 use Rattle.gp_journal.specs.State.{code_of}
 use Rattle.gp_journal.specs.Run.{last}
-use Rattle.gp_sim.specs.Choice.{actions, chosen}
 use Rattle.gp_sim.specs.kept.Simulation.{SoFar}
 use Rattle.gp_sim.proofs.Enabled.{chosen_may}
 use Rattle.gp_sim.proofs.Stepping.{reached}
@@ -11,9 +10,6 @@ pub make-requires-clause-may : goal.make-requires-clause-may
 make-requires-clause-may g c =
     let j = ap (λ (s : SoFar). s.journal) c.self.view_is in
     let now = last (code_of g.R.Run.program) g.R.Run.settings c.self.inside.history in
-    let listed : c.as_slice.result.now ≡ actions (code_of g.R.Run.program) g.R.Run.settings now =
-    c.as_slice.ensures.value ∙ c.in_ok-actions.ensures ∙ ap (λ h. actions (code_of g.R.Run.program) g.R.Run.settings (last (code_of g.R.Run.program) g.R.Run.settings h)) c.machine.ensures in
-    let turned : chosen g.R.Run.settings c.self.inside.numbers (actions (code_of g.R.Run.program) g.R.Run.settings now) ≡ Some c.in-Some.turn =
-    ap (chosen g.R.Run.settings c.self.inside.numbers) (sym listed) ∙ sym c.choose.ensures ∙ c.in-Some.is in
     rw (← j)
-    (chosen_may (code_of g.R.Run.program) g.R.Run.settings now (reached (code_of g.R.Run.program) g.R.Run.settings c.self.inside.history c.self.inside.bodies c.self.invariant) c.self.invariant.in_range c.self.inside.numbers c.in-Some.turn turned)
+    (chosen_may (code_of g.R.Run.program) g.R.Run.settings now (reached (code_of g.R.Run.program) g.R.Run.settings c.self.inside.history c.self.inside.bodies c.self.invariant) c.self.invariant.in_range c.self.inside.numbers
+    c.in-Some.field-0.turn (rw c.machine-machine.ensures at c.in-Some.ensures.turn))
