@@ -1,4 +1,5 @@
 pub mod FirstSeen
+pub mod Entering
 pub mod Tally
 pub mod Order
 pub mod Comparing

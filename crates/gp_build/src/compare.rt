@@ -12,6 +12,9 @@ use std::cmp::Ordering;
 fn compare_frames(parts: &Parts, a: Frame, b: Frame) -> Ordering
     ensures { result ≡ frame_cmp parts.now a b }
 {
+    if a.function == b.function {
+        return a.line.cmp(&b.line);
+    }
     match function_name(parts, a.function).cmp(function_name(parts, b.function)) {
         Ordering::Equal => a.line.cmp(&b.line),
         order => order,

@@ -18,11 +18,18 @@ use gp_wire::{
 use indexmap::IndexSet;
 use std::alloc::Global;
 
+/// An empty list with room for `n` elements.
+pub(crate) fn room<T>(alloc: Global, n: usize) -> Result<Sequence<T>, Memory>
+    ensures { IfOk result (λ items. items ≡ []) }
+{
+    Ok(Sequence::from_vec(Vec::with_capacity(alloc, n)?))
+}
+
 /// A list of one.
 pub(crate) fn one<T: Drop>(alloc: Global, item: T) -> Result<Sequence<T>, Memory>
     ensures { IfOk result (λ items. items ≡ item ∷ []) }
 {
-    let mut items = Sequence::new(alloc);
+    let mut items = room(alloc, 1)?;
     items.push(item)?;
     Ok(items)
 }
@@ -51,7 +58,7 @@ pub(crate) fn kinds<'a>(
 ) -> Result<ValueTypes, Memory>
     ensures { IfOk result (λ types. types ≡ map (type_of strings.now.keys) kinds.now) }
 {
-    let mut types = Sequence::new(alloc);
+    let mut types = room(alloc, kinds.len())?;
     for item in kinds {
         types.push(kind(strings, item))?;
     }
@@ -89,7 +96,7 @@ fn labels<'a>(
 ) -> Result<Labels, Memory>
     ensures { IfOk result (λ labels. labels ≡ map (label_of strings.now.keys) pairs.now) }
 {
-    let mut labels = Sequence::new(alloc);
+    let mut labels = room(alloc, pairs.len())?;
     for pair in pairs {
         labels.push(label(strings, pair))?;
     }
@@ -112,7 +119,7 @@ fn function_id(functions: &IndexSet<Routine>, routine: Routine) -> u64
 fn location_ids(alloc: Global, locations: &IndexSet<Site>, stack: &[Site]) -> Result<Words, Memory>
     ensures { IfOk result (λ ids. ids ≡ map (numbers.location_id locations.now.keys) stack.now) }
 {
-    let mut ids = Sequence::new(alloc);
+    let mut ids = room(alloc, stack.len())?;
     for site in stack {
         ids.push(location_id(locations, *site))?;
     }
@@ -144,7 +151,7 @@ pub(crate) fn samples<'a>(
 ) -> Result<Samples, Memory>
     ensures { IfOk result (λ messages. messages ≡ map (sample_of parts.now strings.now.keys locations.now.keys) samples.now) }
 {
-    let mut messages = Sequence::new(alloc);
+    let mut messages = room(alloc, samples.len())?;
     for item in samples {
         messages.push(sample(alloc, parts, strings, locations, item)?)?;
     }
@@ -176,7 +183,7 @@ pub(crate) fn locations(
 ) -> Result<Locations, Memory>
     ensures { IfOk result (λ locations. locations ≡ map (location_of table.now.keys functions.now.keys) table.now.keys) }
 {
-    let mut locations = Sequence::new(alloc);
+    let mut locations = room(alloc, table.len())?;
     for site in table.as_slice() {
         locations.push(location(alloc, table, functions, *site)?)?;
     }
@@ -211,7 +218,7 @@ pub(crate) fn functions<'a>(
 ) -> Result<Functions, Memory>
     ensures { IfOk result (λ all. all ≡ map (function_in parts.now file.now strings.now.keys table.now.keys) table.now.keys) }
 {
-    let mut functions = Sequence::new(alloc);
+    let mut functions = room(alloc, table.len())?;
     for routine in table.as_slice() {
         functions.push(function(parts, file, strings, table, *routine))?;
     }
@@ -221,7 +228,7 @@ pub(crate) fn functions<'a>(
 pub(crate) fn strings(alloc: Global, table: &IndexSet<Need>) -> Result<Strings, Memory>
     ensures { IfOk result (λ strings. strings ≡ map text_of table.now.keys) }
 {
-    let mut strings = Sequence::new(alloc);
+    let mut strings = room(alloc, table.len())?;
     for need in table.as_slice() {
         strings.push(Text::from_str(alloc, need.as_str())?)?;
     }

@@ -7,11 +7,11 @@ ghost use Rattle.gp_build.specs.Samples.{group_of, groups_of, groups_in_order};
 ghost use Rattle.gp_build.specs.Profile.{sample_of_group, goroutine_samples};
 
 use crate::compare::compare;
-use crate::messages::one;
+use crate::messages::{one, room};
 use crate::sample::StackSample;
 use crate::shown::Shown;
 use crate::site::{Site, Sites};
-use gp_isa::{Frame, Memory, Parts, Sequence};
+use gp_isa::{Frame, Memory, Parts};
 use gp_stack::Record;
 use indexmap::IndexMap;
 use std::alloc::Global;
@@ -53,7 +53,7 @@ fn counts<'a>(
 fn list<'a>(alloc: Global, counts: IndexMap<Shown<'a>, u64>) -> Result<Vec<Group<'a>>, Memory>
     ensures { IfOk result (λ samples. samples.items ≡ map group_of counts.entry.entries) }
 {
-    let mut samples = Vec::new(alloc);
+    let mut samples = Vec::with_capacity(alloc, counts.len())?;
     for (shown, count) in counts {
         samples.push(Group { shown, count })?;
     }
@@ -77,7 +77,7 @@ fn groups<'a>(
 fn sites(alloc: Global, stack: &[Frame]) -> Result<Sites, Memory>
     ensures { IfOk result (λ sites. sites ≡ map site_of stack.now) }
 {
-    let mut sites = Sequence::new(alloc);
+    let mut sites = room(alloc, stack.len())?;
     for frame in stack {
         sites.push(Site::new(*frame))?;
     }
@@ -99,7 +99,7 @@ fn samples_of(alloc: Global, all: &[Group]) -> Result<Vec<StackSample>, Memory>
     requires { All (λ (group : Group). group.count < 2 ^ 63) all.now }
     ensures { IfOk result (λ samples. samples.items ≡ map sample_of_group all.now) }
 {
-    let mut samples = Vec::new(alloc);
+    let mut samples = Vec::with_capacity(alloc, all.len())?;
     for group in all {
         samples.push(sample(alloc, group)?)?;
     }

@@ -1,13 +1,12 @@
 //! The tables that number texts, locations and functions, each in the order of first need.
 
-ghost use Rattle.std.specs.Prelude.{◌≡◌, ◌<◌, ◌^◌, OnOk, IfOk};
-ghost use Rattle.std.specs.List.{flat_map};
-ghost use Rattle.indexmap.specs.IndexSet.{insert_all};
-ghost use Rattle.gp_build.specs.FirstNeed.{place_in};
-ghost use Rattle.gp_build.specs.Site.{same_site, same_routine};
-ghost use Rattle.gp_build.specs.Numbers.{kind_needs, period_needs, site_needs, label_needs, sample_needs};
-ghost use Rattle.gp_build.specs.Numbers.{string_table, location_table, function_table, routines_of};
-ghost use Rattle.gp_build.specs.kept.Tables.{with_needs};
+ghost use Rattle.std.specs.Prelude.{◌≡◌, ◌<◌, ◌^◌, ◌∷◌, [], ◌++◌, not, OnOk, IfOk};
+ghost use Rattle.std.specs.List.{flat_map, list_any};
+ghost use Rattle.indexmap.specs.IndexSet.{insert_key};
+ghost use Rattle.gp_build.specs.FirstNeed.{place_in, first_seen};
+ghost use Rattle.gp_build.specs.Numbers.{text, same_need, kind_needs, period_needs, site_needs, label_needs, sample_needs, all_sites};
+ghost use Rattle.gp_build.specs.Numbers.{string_table, location_table, function_table};
+ghost use Rattle.gp_build.specs.kept.Tables.{with_needs, HasNeeds, Enters};
 
 use crate::lookup::{filename, labels, name};
 use crate::need::Need;
@@ -18,12 +17,28 @@ use indexmap::IndexSet;
 use std::alloc::Global;
 use std::hash::Hash;
 
+/// The tables of a profile.
+#[derive(Drop)]
+pub(crate) struct Tables<'a> {
+    pub strings: IndexSet<Need<'a>>,
+    pub locations: IndexSet<Site>,
+    pub functions: IndexSet<Routine>,
+}
+
+// A key goes to the end of a table, where it isn't there yet. The answer is whether it was new.
+fn enter<K: Eq + Hash + Drop>(table: &mut IndexSet<K>, key: K) -> Result<bool, Memory>
+    ensures keys { OnOk result (table.new.keys ≡ insert_key K.eq table.old.keys key) }
+    ensures new { IfOk result (λ new. new ≡ not (list_any (K.eq key) table.old.keys)) }
+{
+    Ok(table.insert(key)?)
+}
+
 // The name and the unit of a kind.
 fn need_kind<'a>(strings: &mut IndexSet<Need<'a>>, kind: &'a Kind) -> Result<(), Memory>
     ensures { OnOk result (strings.new.keys ≡ with_needs strings.old.keys (kind_needs kind.now)) }
 {
-    strings.insert(Need::text(kind.name.as_str()))?;
-    strings.insert(Need::text(kind.unit.as_str()))?;
+    enter(strings, Need::text(kind.name.as_str()))?;
+    enter(strings, Need::text(kind.unit.as_str()))?;
     Ok(())
 }
 
@@ -48,18 +63,47 @@ fn need_period<'a>(
     }
 }
 
-// The name and the file of each site's function.
-fn need_sites<'a>(
-    strings: &mut IndexSet<Need<'a>>,
+// The empty text, and what the header needs.
+fn first_strings<'a>(alloc: Global, header: &'a Header) -> Result<IndexSet<Need<'a>>, Memory>
+    ensures { let needs = (text [] ∷ flat_map kind_needs header.now.types) ++ period_needs header.now.period_type in
+        IfOk result (λ strings. strings.keys ≡ first_seen same_need needs) }
+{
+    let mut strings = IndexSet::new(alloc);
+    enter(&mut strings, Need::text(""))?;
+    need_kinds(&mut strings, header.types.as_slice())?;
+    need_period(&mut strings, &header.period_type)?;
+    Ok(strings)
+}
+
+// A site, and where it is new its function with its name and its file. Those of a site that was there are there too.
+fn need_site<'a>(
+    all: &mut Tables<'a>,
+    parts: &'a Parts,
+    file: &'a str,
+    site: Site,
+) -> Result<(), Memory>
+    requires { HasNeeds parts.now file.now all.old }
+    ensures { OnOk result (Enters parts.now file.now (site_needs parts.now file.now site) (site ∷ []) all.old all.new) }
+{
+    if enter(&mut all.locations, site)? {
+        enter(&mut all.functions, site.routine)?;
+        enter(&mut all.strings, Need::text(name(parts, site.routine)))?;
+        enter(&mut all.strings, Need::text(filename(file, site.routine)))?;
+    }
+    Ok(())
+}
+
+fn need_stack<'a>(
+    all: &mut Tables<'a>,
     parts: &'a Parts,
     file: &'a str,
     stack: &[Site],
 ) -> Result<(), Memory>
-    ensures { OnOk result (strings.new.keys ≡ with_needs strings.old.keys (flat_map (site_needs parts.now file.now) stack.now)) }
+    requires { HasNeeds parts.now file.now all.old }
+    ensures { OnOk result (Enters parts.now file.now (flat_map (site_needs parts.now file.now) stack.now) stack.now all.old all.new) }
 {
     for site in stack {
-        strings.insert(Need::text(name(parts, site.routine)))?;
-        strings.insert(Need::text(filename(file, site.routine)))?;
+        need_site(all, parts, file, *site)?;
     }
     Ok(())
 }
@@ -69,100 +113,41 @@ fn need_labels<'a>(strings: &mut IndexSet<Need<'a>>, labels: &'a [Pair]) -> Resu
     ensures { OnOk result (strings.new.keys ≡ with_needs strings.old.keys (flat_map label_needs labels.now)) }
 {
     for pair in labels {
-        strings.insert(Need::text(pair.key.as_str()))?;
-        strings.insert(Need::value(pair.value.as_str()))?;
+        enter(strings, Need::text(pair.key.as_str()))?;
+        enter(strings, Need::value(pair.value.as_str()))?;
     }
     Ok(())
 }
 
-#[tactic(auto, unfolding(crate::specs::Numbers::sample_needs))]
 fn need_sample<'a>(
-    strings: &mut IndexSet<Need<'a>>,
+    all: &mut Tables<'a>,
     parts: &'a Parts,
     file: &'a str,
     sample: &StackSample,
 ) -> Result<(), Memory>
-    ensures { OnOk result (strings.new.keys ≡ with_needs strings.old.keys (sample_needs parts.now file.now sample.now)) }
+    requires { HasNeeds parts.now file.now all.old }
+    ensures { let needs = sample_needs parts.now file.now sample.now in
+        OnOk result (Enters parts.now file.now needs sample.now.stack all.old all.new) }
 {
-    need_sites(strings, parts, file, sample.stack.as_slice())?;
-    need_labels(strings, labels(parts, sample.set))
+    need_stack(all, parts, file, sample.stack.as_slice())?;
+    need_labels(&mut all.strings, labels(parts, sample.set))?;
+    Ok(())
 }
 
 fn need_samples<'a>(
-    strings: &mut IndexSet<Need<'a>>,
+    all: &mut Tables<'a>,
     parts: &'a Parts,
     file: &'a str,
     samples: &[StackSample],
 ) -> Result<(), Memory>
-    ensures { OnOk result (strings.new.keys ≡ with_needs strings.old.keys (flat_map (sample_needs parts.now file.now) samples.now)) }
+    requires { HasNeeds parts.now file.now all.old }
+    ensures { let needs = flat_map (sample_needs parts.now file.now) samples.now in
+        OnOk result (Enters parts.now file.now needs (all_sites samples.now) all.old all.new) }
 {
     for sample in samples {
-        need_sample(strings, parts, file, sample)?;
+        need_sample(all, parts, file, sample)?;
     }
     Ok(())
-}
-
-fn strings<'a>(
-    alloc: Global,
-    parts: &'a Parts,
-    file: &'a str,
-    header: &'a Header,
-    samples: &[StackSample],
-) -> Result<IndexSet<Need<'a>>, Memory>
-    ensures { IfOk result (λ strings. strings.keys ≡ string_table parts.now file.now header.now samples.now) }
-{
-    let mut strings = IndexSet::new(alloc);
-    strings.insert(Need::text(""))?;
-    need_kinds(&mut strings, header.types.as_slice())?;
-    need_period(&mut strings, &header.period_type)?;
-    need_samples(&mut strings, parts, file, samples)?;
-    Ok(strings)
-}
-
-fn need_locations(locations: &mut IndexSet<Site>, stack: &[Site]) -> Result<(), Memory>
-    ensures { OnOk result (locations.new.keys ≡ insert_all same_site locations.old.keys stack.now) }
-{
-    for site in stack {
-        locations.insert(*site)?;
-    }
-    Ok(())
-}
-
-fn locations(alloc: Global, samples: &[StackSample]) -> Result<IndexSet<Site>, Memory>
-    ensures { IfOk result (λ locations. locations.keys ≡ location_table samples.now) }
-{
-    let mut locations = IndexSet::new(alloc);
-    for sample in samples {
-        need_locations(&mut locations, sample.stack.as_slice())?;
-    }
-    Ok(locations)
-}
-
-fn need_functions(functions: &mut IndexSet<Routine>, stack: &[Site]) -> Result<(), Memory>
-    ensures { OnOk result (functions.new.keys ≡ insert_all same_routine functions.old.keys (routines_of stack.now)) }
-{
-    for site in stack {
-        functions.insert(site.routine)?;
-    }
-    Ok(())
-}
-
-fn functions(alloc: Global, samples: &[StackSample]) -> Result<IndexSet<Routine>, Memory>
-    ensures { IfOk result (λ functions. functions.keys ≡ function_table samples.now) }
-{
-    let mut functions = IndexSet::new(alloc);
-    for sample in samples {
-        need_functions(&mut functions, sample.stack.as_slice())?;
-    }
-    Ok(functions)
-}
-
-/// The tables of a profile.
-#[derive(Drop)]
-pub(crate) struct Tables<'a> {
-    pub strings: IndexSet<Need<'a>>,
-    pub locations: IndexSet<Site>,
-    pub functions: IndexSet<Routine>,
 }
 
 impl<'a> Tables<'a> {
@@ -178,11 +163,13 @@ impl<'a> Tables<'a> {
         ensures locations { IfOk result (λ all. all.locations.keys ≡ location_table samples.now) }
         ensures functions { IfOk result (λ all. all.functions.keys ≡ function_table samples.now) }
     {
-        Ok(Tables {
-            strings: strings(alloc, parts, file, header, samples)?,
-            locations: locations(alloc, samples)?,
-            functions: functions(alloc, samples)?,
-        })
+        let mut all = Tables {
+            strings: first_strings(alloc, header)?,
+            locations: IndexSet::new(alloc),
+            functions: IndexSet::new(alloc),
+        };
+        need_samples(&mut all, parts, file, samples)?;
+        Ok(all)
     }
 }
 
