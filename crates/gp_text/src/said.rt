@@ -4,7 +4,7 @@ use crate::verb::Verb;
 use std::marker::Model;
 
 /// A name in the file's bytes, which contracts see as the list of its bytes.
-#[derive(Debug, Drop)]
+#[derive(Drop)]
 pub(crate) struct Name<'a> {
     bytes: &'a [u8],
 }
@@ -37,7 +37,7 @@ impl<'a> Name<'a> {
 }
 
 /// What a line says.
-#[derive(Debug, Drop)]
+#[derive(Drop)]
 pub(crate) enum Said<'a> {
     /// It isn't UTF-8.
     NotUtf8,

@@ -5,7 +5,7 @@ use crate::verb::Verb;
 use gp_isa::limits;
 
 /// Functions, channels and mutexes have a space of names each.
-#[derive(Clone, Copy, Debug, PartialEq, Eq)]
+#[derive(Clone, Copy)]
 pub(crate) enum Space {
     Functions,
     Channels,

@@ -1,5 +1,5 @@
 /// The word of a statement that names a function, a channel or a mutex.
-#[derive(Clone, Copy, Debug, PartialEq, Eq)]
+#[derive(Clone, Copy)]
 pub(crate) enum Verb {
     Call,
     Spawn,

@@ -1,4 +1,5 @@
-use Rattle.std.proofs.Common.{◌++◌, [], ◌∷◌, sym, ap, ◌∙◌}
+use Rattle.std.proofs.Common.{List, ◌++◌, [], ◌∷◌, sym, ap, ◌∙◌}
+use Rattle.gp_text.specs.declared.said.Said.{Said}
 use Rattle.gp_text.proofs.Cuts.{read_line, read_few, read_last, read_over, some_of, none_of}
 use Rattle.gp_text.proofs.lines.said_lines.Goals as goal
 use Rattle.gp_text.proofs.lines.said_lines.Goals.{then-not-is_empty+in_ok-push-2, else-not-is_empty}
@@ -16,6 +17,6 @@ pub returns-clause-lines : goal.returns-clause-lines
 returns-clause-lines c = elim c.if-not-is_empty.branch [
   | then-not-is_empty+in_ok-push-2 w ↦
       read_last c.loop-at.all.items c.if-not-is_empty.all.items c.loop-at.rest.now c.args.bytes.now c.loop-at.invariant.0 (sym c.in_default.ensures.place) (some_of _ (sym w.if-not-is_empty.ensures))
-      (ap (λ v. v.items) w.all-is ∙ w.in_ok-push-2.ensures.items ∙ ap (λ s. c.loop-at.all.items ++ s ∷ []) w.said-then-not-is_empty.ensures)
+      (◌∙◌ {A = List Said} (ap (λ v. v.items) w.all-is) (◌∙◌ {A = List Said} w.in_ok-push-2.ensures.items (ap (λ s. c.loop-at.all.items ++ s ∷ []) w.said-then-not-is_empty.ensures)))
   | else-not-is_empty w ↦ read_over c.loop-at.all.items c.if-not-is_empty.all.items c.loop-at.rest.now c.args.bytes.now c.loop-at.invariant.0 (none_of _ (sym w.if-not-is_empty.ensures)) (ap (λ v. v.items) w.all-is)
 ]
