@@ -4,7 +4,7 @@ use Rattle.std.proofs.lemmas.List.Elements.{All-nil, All-cons, All-head, All-tai
 use Rattle.std.proofs.lemmas.List.Sums.{sum_by-cons}
 use Rattle.std.specs.List.{cons_option}
 use Rattle.gp_journal.specs.declared.settings.Request.{Request}
-use Rattle.gp_machine.specs.Settings.{AreInRange, IsInstant}
+use Rattle.gp_journal.specs.Settings.{AreInRange, IsInstant}
 use Rattle.gp_words.specs.declared.setting.Setting.{Setting}
 use Rattle.gp_words.specs.declared.setting.Setting.TheVariants.{Workers, At, Room, Seed, Cells, Entries, Picks}
 use Rattle.gp_words.specs.declared.choice.Choice.{Choice}

@@ -1,9 +1,9 @@
 use crate::setting::Setting;
 use gp_isa::Sequence;
-use gp_machine::{Picks, Request};
+use gp_journal::{Picks, Request};
 
 /// The value of an option.
-#[derive(Debug, Drop)]
+#[derive(Drop)]
 pub(crate) enum Value {
     Number { number: u64 },
     Instant { request: Request },
@@ -11,7 +11,7 @@ pub(crate) enum Value {
 }
 
 /// An option: what it sets, and the value.
-#[derive(Debug, Drop)]
+#[derive(Drop)]
 pub(crate) struct Choice {
     pub setting: Setting,
     pub value: Value,

@@ -1,5 +1,5 @@
 use gp_isa::Text;
-use gp_machine::Settings;
+use gp_journal::Settings;
 
 /// What command words ask for.
 #[derive(Debug, Drop)]

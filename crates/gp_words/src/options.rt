@@ -13,7 +13,7 @@ use crate::number::number;
 use crate::picks::picks;
 use crate::setting::{Setting, Values};
 use gp_isa::{Memory, limits};
-use gp_machine::Request;
+use gp_journal::Request;
 use std::alloc::Global;
 
 /// The instant of a word: a clock, or `end`.

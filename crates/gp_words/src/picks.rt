@@ -3,7 +3,7 @@ ghost use Rattle.gp_words.specs.Numbers.{picks_of};
 
 use crate::number::number;
 use gp_isa::{Memory, limits};
-use gp_machine::Picks;
+use gp_journal::Picks;
 use std::alloc::Global;
 
 /// The numbers that a word writes, joined by commas.

@@ -4,7 +4,7 @@ ghost use Rattle.gp_words.specs.Table.{setting_of, values_of, most_times, same};
 use gp_isa::limits;
 
 /// What an option sets.
-#[derive(Clone, Copy, Debug, PartialEq, Eq)]
+#[derive(Clone, Copy, PartialEq, Eq)]
 pub(crate) enum Setting {
     Workers,
     At,
@@ -16,7 +16,7 @@ pub(crate) enum Setting {
 }
 
 /// The values that an option may have.
-#[derive(Clone, Copy, Debug)]
+#[derive(Clone, Copy)]
 pub(crate) enum Values {
     /// A number from `least` to `most`.
     Numbers { least: u64, most: u64 },

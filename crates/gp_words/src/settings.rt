@@ -1,12 +1,12 @@
 ghost use Rattle.std.specs.Prelude.{◌≡◌, IfOk};
-ghost use Rattle.gp_machine.specs.Settings.{AreInRange};
+ghost use Rattle.gp_journal.specs.Settings.{AreInRange};
 ghost use Rattle.gp_words.specs.kept.Sound.{IsSound};
 ghost use Rattle.gp_words.specs.Settings.{number_or, instants_of, list_of, settings_of};
 
 use crate::choice::{Choice, Choices, Value};
 use crate::setting::Setting;
 use gp_isa::Memory;
-use gp_machine::{Picks, Requests, Settings};
+use gp_journal::{Picks, Requests, Settings};
 use std::alloc::Global;
 
 /// The number that a setting was given, else the usual one.

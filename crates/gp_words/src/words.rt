@@ -1,5 +1,5 @@
 ghost use Rattle.std.specs.Prelude.{◌≡◌, IfOk, IfErr};
-ghost use Rattle.gp_machine.specs.Settings.{AreInRange};
+ghost use Rattle.gp_journal.specs.Settings.{AreInRange};
 ghost use Rattle.gp_words.specs.Words.{texts, is_file_word, IsFileWord};
 ghost use Rattle.gp_words.specs.Read.{Names, IsFault, Reads};
 ghost use Rattle.gp_words.specs.Job.{job_of, sim_of, file_of, settings_in};

@@ -1,7 +1,7 @@
 -- What is so of the options taken, while they are read: each has a value of the table, and none was given too often.
 use Rattle.std.specs.Prelude.{◌≤◌, ◌<◌, ◌^◌, List, length, All}
 use Rattle.gp_isa.specs.Limits.{most_picks}
-use Rattle.gp_machine.specs.Settings.{IsInstant}
+use Rattle.gp_journal.specs.Settings.{IsInstant}
 use Rattle.gp_words.specs.declared.setting.Setting.{Setting}
 use Rattle.gp_words.specs.declared.setting.Values.{Values}
 use Rattle.gp_words.specs.declared.setting.Values.TheVariants.{Numbers, Instants, Lists}

@@ -1,5 +1,5 @@
 use Rattle.std.proofs.Common.{◌≡◌, ◌∙◌, ap, sym, subst, arith}
-use Rattle.gp_machine.specs.Settings.{AreInRange}
+use Rattle.gp_journal.specs.Settings.{AreInRange}
 use Rattle.gp_words.specs.declared.setting.Setting.TheVariants.{Workers, Room, Seed, Cells, Entries}
 use Rattle.gp_words.specs.Settings.{number_or, instants_of}
 use Rattle.gp_words.proofs.Ranges.{built, settings_range, workers_range, cells_range, room_range, entries_range}
