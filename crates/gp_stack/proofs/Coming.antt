@@ -13,7 +13,7 @@ use Rattle.gp_stack.specs.declared.peek.Then.TheVariants as follows
 use Rattle.gp_stack.specs.declared.statement.Operation.{Operation}
 
 -- what follows tells of a point
-pub Tells : List Point → ℕ → Then → Type 0
+unfoldable pub Tells : List Point → ℕ → Then → Type 0
 Tells points count follows.Local = (is_ended points count ≡ false) × (operation_of (next_point points count).instruction ≡ None)
 Tells points count (follows.Shared o) = (is_ended points count ≡ false) × (operation_of (next_point points count).instruction ≡ Some o)
 Tells points count follows.Over = is_ended points count ≡ true
@@ -29,7 +29,7 @@ further p ps count follows.Local tells = (leb-suc-suc (length ps) count ∙ tell
 further p ps count (follows.Shared o) tells = (leb-suc-suc (length ps) count ∙ tells.0, tells.1)
 further p ps count follows.Over tells = leb-suc-suc (length ps) count ∙ tells
 
-told_at : (points : List Point) (count : ℕ) → Tells points count (then_at points count)
+pub told_at : (points : List Point) (count : ℕ) → Tells points count (then_at points count)
 unfolding then_at is_ended next_point Tells
 told_at [] zero = refl
 told_at [] (suc count) = le-leb 0 (suc count) (omega arith)

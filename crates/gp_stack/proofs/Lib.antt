@@ -11,6 +11,6 @@ pub mod Peeks
 pub mod Looking
 pub mod Working
 pub mod Short
-pub mod Conditions
 pub mod Deep
 pub mod Coming
+pub mod Conditions

@@ -34,8 +34,11 @@
 //! its next one, and a level around a loop gives none.
 //!
 //! Levels find their statements by indices: a loop's body is looked up in the body around it, at most eight times,
-//! up to the function's. `peek` walks the program's statements without moving the body. Only `vacant`, `stack` and
-//! `record` take memory.
+//! up to the function's. `peek` walks the program's statements without moving the body. A look and a move take a call
+//! by the size that the program keeps for the function (`gp_isa::Size`): a look in one step where all its points are
+//! local, and `advance` where all are work, so that they change no labels. A look takes the turns of a loop by one turn's
+//! points, and `advance` as many turns at once as have work alone and fit (`specs/kept/Passing.antt`). So neither takes
+//! time by the points. Only `vacant`, `stack` and `record` take memory.
 #![tactic(auto)]
 
 mod body;
