@@ -6,7 +6,6 @@ use Rattle.std.proofs.lemmas.Bool.{and_parts, and_from}
 use Rattle.std.proofs.lemmas.List.{append_assoc, append-nil, length-map, map-append}
 use Rattle.gp_isa.specs.declared.frame.Frame.{Frame}
 use Rattle.gp_isa.specs.declared.parts.Parts.{Parts}
-use Rattle.gp_isa.specs.declared.statement.What.TheOpen.{Call}
 use Rattle.gp_isa.specs.Statement.{line_of}
 use Rattle.gp_isa.specs.Calls.{IsProgram}
 use Rattle.gp_isa.specs.Size.{most_frames, is_work, all_pass}
@@ -16,7 +15,8 @@ use Rattle.gp_isa.proofs.Sizes.{all_pass-append, all_pass-called}
 use Rattle.gp_stack.specs.declared.level.Level.{Level}
 use Rattle.gp_stack.specs.Goroutine.{set_after, set_after_all}
 use Rattle.gp_stack.specs.kept.Level.{is_base, body_at, callers, called_from, points_of_call, points_of_statements, left_here, left}
-use Rattle.gp_stack.specs.kept.Passing.{WorkBefore, Passes, AreWork, IsWorkCall, IsWorkTurn}
+use Rattle.gp_stack.specs.kept.Looks.{points_of_action}
+use Rattle.gp_stack.specs.kept.Passing.{WorkBefore, Passes, AreWork, IsWorkStatement, IsWorkTurn}
 use Rattle.gp_stack.specs.kept.Place.{stepped}
 use Rattle.gp_stack.proofs.Deep.{deep_enough}
 use Rattle.gp_stack.proofs.Moves.{added, left_next, left_cons, here_end, body_turning}
@@ -98,13 +98,13 @@ passes_turns parts level outer n k r turn split =
     work_piece (left parts (level ∷ outer)) (called (repeated k points)) (left parts (record level { turns = r } ∷ outer)) (k * n) whole
     (work_called_from (callers parts (is_base level) outer) (repeated k points) (k * n) (work_times points k n turn.work))
 
--- a call whose points are work is passed whole
-pub passes_call : (parts : Parts) (level : Level) (outer : List Level) (n : ℕ) → IsWorkCall parts level outer n → Passes parts (level ∷ outer) (stepped (level ∷ outer)) n
-passes_call parts level outer n call =
-    let line : ℕ = line_of call.stands.statement in
-    let here : List Point = added parts level line (Call call.function) in
-    work_piece (left parts (level ∷ outer)) (map (called_from (callers parts (is_base level) outer)) here) (left parts (stepped (level ∷ outer))) n (left_next parts level outer (Call call.function) call.stands)
-    (work_called_from (callers parts (is_base level) outer) here n (work_call_at level.function line (points_of_call parts level.calls call.function) n call.work))
+-- a statement whose points are work is passed whole
+pub passes_statement : (parts : Parts) (level : Level) (outer : List Level) (n : ℕ) → IsWorkStatement parts level outer n → Passes parts (level ∷ outer) (stepped (level ∷ outer)) n
+unfolding points_of_action
+passes_statement parts level outer n here =
+    let points : List Point = added parts level (line_of here.stands.statement) here.action in
+    work_piece (left parts (level ∷ outer)) (map (called_from (callers parts (is_base level) outer)) points) (left parts (stepped (level ∷ outer))) n (left_next parts level outer here.action here.stands)
+    (work_called_from (callers parts (is_base level) outer) points n here.work)
 
 -- the points of a call, with calls followed deep enough
 pub called_work : (parts : Parts) → IsProgram parts → (calls f n : ℕ) → most_frames (trace parts f) ≤ calls → all_pass is_work (trace parts f) ≡ true → n ≡ length (trace parts f) →

@@ -1,5 +1,5 @@
 -- Statements whose points all are work.
-use Rattle.std.proofs.Common.{◌≡◌, ◌<◌, ◌≤◌, ◌+◌, ◌-◌, ◌*◌, ℕ, zero, suc, List, length, drop, Option, Some, None, IfSome, refl, ap, sym, ◌∙◌, arith, subst}
+use Rattle.std.proofs.Common.{◌≡◌, ◌<◌, ◌≤◌, ◌+◌, ◌-◌, ◌*◌, ◌^◌, ℕ, zero, suc, List, length, drop, Option, Some, None, IfSome, refl, ap, sym, ◌∙◌, arith, subst}
 use Rattle.std.proofs.lemmas.List.{length-replicate, drop_all}
 use Rattle.gp_isa.specs.declared.parts.Parts.{Parts}
 use Rattle.gp_isa.specs.declared.statement.Stmt.{Stmt}
@@ -9,9 +9,9 @@ use Rattle.gp_isa.specs.Size.{is_work}
 use Rattle.gp_isa.proofs.Sizes.{all_pass-work}
 use Rattle.gp_stack.specs.kept.Ahead.{Does}
 use Rattle.gp_stack.specs.declared.level.Level.{Level}
-use Rattle.gp_stack.specs.kept.Level.{points_of_call, points_of_statements}
+use Rattle.gp_stack.specs.kept.Level.{points_of_call, points_of_statements, body_at}
 use Rattle.gp_stack.specs.kept.Looks.{points_of_action, points_of_all}
-use Rattle.gp_stack.specs.kept.Passing.{WorkBefore, AreWork}
+use Rattle.gp_stack.specs.kept.Passing.{WorkBefore, AreWork, IsWorkStatement}
 use Rattle.gp_stack.proofs.Looking.{does_at, points_split, known, all_nil}
 use Rattle.gp_stack.proofs.Passing.{work_more, work_piece, work_whole, work_times, work_call_at}
 
@@ -74,3 +74,11 @@ work_all parts calls loops f body at points past before =
 pub level_work : (parts : Parts) (level : Level) (body : List Stmt) (n : ℕ) → AreWork (points_of_all parts level.calls level.loops level.function body) n → AreWork (points_of_statements parts level body) n
 unfolding points_of_all
 level_work parts level body n are = are
+
+-- the statement at a place
+pub work_stands : (parts : Parts) (level : Level) (outer : List Level) (n : ℕ) (body : List Stmt) → body ≡ body_at parts level outer → level.at < length body → length body < 2 ^ 64 →
+    WorkAt parts level.calls level.loops body level.at n → IsWorkStatement parts level outer n
+work_stands parts level outer n body same within fits here =
+    let found : (a : Action) × Does (body_at parts level outer) level.at a = does_at (body_at parts level outer) level.at (subst (λ (b : List Stmt). level.at < length b) same within) in
+    let there : WorkAt parts level.calls level.loops (body_at parts level outer) level.at n = subst (λ b. WorkAt parts level.calls level.loops b level.at n) same here in
+    record { action = found.0; stands = found.1; next = omega arith; work = there level.function (line_of found.1.statement) found.0 found.1 }

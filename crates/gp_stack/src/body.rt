@@ -98,8 +98,8 @@ impl Body {
         self.labels
     }
 
-    /// Passes `n` local points. It takes time by the statements that it crosses, however large `n` is. A call whose
-    /// points all are work counts as one, and so do turns of a loop that have work alone.
+    /// Passes `n` local points. It takes time by the statements that it crosses, however large `n` is. A call or a loop
+    /// whose points all are work counts as one, and so do turns of a loop that have work alone.
     pub fn advance(&mut self, program: &Program, n: u64)
         requires stands { StandsIn program.now self.old }
         requires ahead { n ≤ ahead_at program.now (progress_of self.old) }

@@ -35,10 +35,10 @@
 //!
 //! Levels find their statements by indices: a loop's body is looked up in the body around it, at most eight times,
 //! up to the function's. `peek` walks the program's statements without moving the body. A look and a move take a call
-//! by the size that the program keeps for the function (`gp_isa::Size`): a look in one step where all its points are
-//! local, and `advance` where all are work, so that they change no labels. A look takes the turns of a loop by one turn's
-//! points, and `advance` as many turns at once as have work alone and fit (`specs/kept/Passing.antt`). So neither takes
-//! time by the points. Only `vacant`, `stack` and `record` take memory.
+//! by the size that the program keeps for the function (`gp_isa::Size`), without going into it: a look where all its
+//! points are local, and `advance` where all are work, so that they change no labels. A look takes the turns of a loop by
+//! the points of one turn, and `advance` takes loops of work alone whole, or as many of their turns as fit
+//! (`specs/kept/Passing.antt`). So neither takes time by the points. Only `vacant`, `stack` and `record` take memory.
 #![tactic(auto)]
 
 mod body;

@@ -80,7 +80,7 @@ fn local_call(program: &Program, calls: u16, h: u32) -> Option<u64>
 }
 
 /// How many points a call of function `f` has where all are work and at most `most`, with calls followed so deep.
-pub(crate) fn work_call(program: &Program, calls: u16, f: u32, most: u64) -> Option<u64>
+fn work_call(program: &Program, calls: u16, f: u32, most: u64) -> Option<u64>
     ensures work { IfSome result (AreWork (points_of_call program.now calls f)) }
     ensures few { IfSome result (λ n. n ≤ most) }
 {
@@ -218,7 +218,7 @@ fn look_times(once: u64, n: u32, limit: u64) -> Peek
 
 /// How many points statement `at` has where all are work and at most `most`, with calls and loops followed so deep.
 #[cycle(work)]
-fn work_at(
+pub(crate) fn work_at(
     program: &Program,
     calls: u16,
     loops: u8,

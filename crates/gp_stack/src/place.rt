@@ -8,11 +8,11 @@ ghost use Rattle.gp_stack.specs.kept.Ahead.{IsAhead, HasNext};
 ghost use Rattle.gp_stack.specs.kept.Looks.{peek_of, steps};
 ghost use Rattle.gp_stack.specs.declared.statement.Operation.{Operation};
 ghost use Rattle.gp_stack.specs.kept.Cost.{cost};
-ghost use Rattle.gp_stack.specs.kept.Passing.{Passes, IsWorkCall, IsWorkTurn};
+ghost use Rattle.gp_stack.specs.kept.Passing.{Passes, IsWorkStatement, IsWorkTurn};
 ghost use Rattle.gp_isa.specs.Limits.{most_loops};
 
 use crate::level::{Level, body};
-use crate::peek::{Peek, Then, look_level, work_call, work_on};
+use crate::peek::{Peek, Then, look_level, work_at, work_on};
 use crate::statement::{Ahead, statement_at};
 use gp_isa::limits::LOOPS;
 use gp_isa::{Memory, Program};
@@ -179,22 +179,27 @@ impl Place {
         while self.step(program) {}
     }
 
-    /// The points of a call at the place, where they all are work and at most `most`.
-    fn work_call(&self, program: &Program, most: u64) -> Option<u64>
-        ensures stands { IfSome result (IsWorkCall program.now self.now.top (reverse self.now.outer.items)) }
+    /// The points of the statement at the place, where they all are work and at most `most`.
+    fn work_here(&self, program: &Program, most: u64) -> Option<u64>
+        requires { self.now.top.loops ≤ most_loops }
+        ensures stands { IfSome result (IsWorkStatement program.now self.now.top (reverse self.now.outer.items)) }
         ensures few { IfSome result (λ n. n ≤ most) }
     {
         if most == 0 {
             return None;
         }
-        match self.ahead(program) {
-            Ahead::Call(f) => work_call(program, self.top.calls, f, most),
-            Ahead::End => None,
-            Ahead::Work(_) => None,
-            Ahead::Labels(_) => None,
-            Ahead::Loop(_, _) => None,
-            Ahead::Shared(_) => None,
+        let body = body(program.parts(), self.top, self.outer.as_slice());
+        if self.top.at >= body.len() {
+            return None;
         }
+        work_at(
+            program,
+            self.top.calls,
+            self.top.loops,
+            body,
+            self.top.at,
+            most,
+        )
     }
 
     /// The points of a turn of the level at whose end the place is, where it comes again and they all are work and at
@@ -230,7 +235,8 @@ impl Place {
         Some(turns * once)
     }
 
-    /// A move towards the next point, which passes at most `most` points of work where a call or turns have no others.
+    /// A move towards the next point, which passes at most `most` points of work where a statement or turns have no
+    /// others.
     fn hop(&mut self, program: &Program, most: u64) -> Option<u64>
         requires { IsIn program.now self.old }
         ensures place { IsIn program.now self.new }
@@ -240,7 +246,7 @@ impl Place {
         ensures ends { MatchOption result (IsSettled program.now self.new.top (reverse self.new.outer.items))
             (λ _. cost program.now (levels self.new) < cost program.now (levels self.old)) }
     {
-        if let Some(n) = self.work_call(program, most) {
+        if let Some(n) = self.work_here(program, most) {
             self.skip();
             return Some(n);
         }
@@ -251,7 +257,7 @@ impl Place {
     }
 
     /// Goes past the statement at the place, to the next point or to the end, and on the way passes at most `most`
-    /// points of work, so many as it says: those of calls and of turns that have no others.
+    /// points of work, so many as it says: those of statements and of turns that have no others.
     pub(crate) fn pass(&mut self, program: &Program, most: u64) -> u64
         requires place { IsIn program.now self.old }
         requires next { self.old.top.at + 1 < 2 ^ 64 }

@@ -3,10 +3,11 @@ use Rattle.std.specs.Prelude.{◌≡◌, ◌≤◌, ◌<◌, ◌+◌, ◌^◌, �
 use Rattle.gp_isa.specs.Size.{is_work, all_pass}
 use Rattle.gp_isa.specs.Trace.{Point}
 use Rattle.gp_isa.specs.declared.parts.Parts.{Parts}
-use Rattle.gp_isa.specs.declared.statement.What.TheOpen.{Call}
+use Rattle.gp_isa.specs.Statement.{Action, line_of}
 use Rattle.gp_stack.specs.declared.level.Level.{Level}
 use Rattle.gp_stack.specs.kept.Ahead.{Does}
-use Rattle.gp_stack.specs.kept.Level.{points_of_call, points_of_statements, body_at, left}
+use Rattle.gp_stack.specs.kept.Looks.{points_of_action}
+use Rattle.gp_stack.specs.kept.Level.{points_of_statements, body_at, left}
 
 -- Some points begin with so many points of work, and then come the others.
 pub record WorkBefore (whole rest : List Point) (n : ℕ) : Type 0 where
@@ -31,9 +32,9 @@ pub record IsWorkTurn (parts : Parts) (level : Level) (outer : List Level) (n : 
   pub some : 0 < n
   pub work : AreWork (points_of_statements parts level (body_at parts level outer)) n
 
--- a call stands at a level that has so many points, all of them work
-pub record IsWorkCall (parts : Parts) (level : Level) (outer : List Level) (n : ℕ) : Type 0 where
-  pub function : ℕ
-  pub stands : Does (body_at parts level outer) level.at (Call function)
+-- a statement stands at a level that has so many points, all of them work
+pub record IsWorkStatement (parts : Parts) (level : Level) (outer : List Level) (n : ℕ) : Type 0 where
+  pub action : Action
+  pub stands : Does (body_at parts level outer) level.at action
   pub next : level.at + 1 < 2 ^ 64
-  pub work : AreWork (points_of_call parts level.calls function) n
+  pub work : AreWork (points_of_action parts level.calls level.loops level.function (line_of stands.statement) action) n
