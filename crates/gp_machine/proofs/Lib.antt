@@ -5,6 +5,7 @@ pub mod Queued
 pub mod Ending
 pub mod Acting
 pub mod Marked
+pub mod Ticks
 pub mod Kept
 pub mod Judged
 pub mod Peeked

@@ -24,5 +24,4 @@ pub use Rattle.gp_journal.specs.Named
 pub mod Queue
 pub mod OnWorker
 pub mod kept
-pub use Rattle.gp_machine.specs.kept.Crowd
 pub use Rattle.gp_machine.specs.kept.Made

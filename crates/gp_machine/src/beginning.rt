@@ -1,8 +1,9 @@
-ghost use Rattle.std.specs.Prelude.{◌≡◌, ◌≤◌, ℕ, [], ◌∷◌, length, get_or, IfOk};
+ghost use Rattle.std.specs.Prelude.{◌≡◌, ◌≤◌, ℕ, [], ◌∷◌, length, get_or, replicate, IfOk};
 ghost use Rattle.gp_isa.specs.Trace.{trace};
 ghost use Rattle.gp_isa.specs.Limits.{most_cells};
-ghost use Rattle.gp_journal.specs.Settings.{AreInRange};
-ghost use Rattle.gp_journal.specs.State.{code_of, first, main_goroutine};
+ghost use Rattle.gp_sync.specs.WaitState.{at_start};
+ghost use Rattle.gp_journal.specs.Settings.{AreInRange, period};
+ghost use Rattle.gp_journal.specs.State.{code_of, first, main_goroutine, resting};
 ghost use Rattle.gp_machine.specs.kept.Present.{FitsPlan};
 
 use crate::goroutines::Goroutines;
@@ -35,7 +36,6 @@ fn plan_of(alloc: Global, program: &Program, settings: &Settings) -> Result<Plan
 {
     Ok(Plan {
         lengths: lengths_of(alloc, program)?,
-        period: (INSTRUCTIONS_PER_SECOND / settings.hz) as u64,
         entries: settings.entries,
         at: Vec::from_slice(alloc, settings.at.as_slice())?,
     })
@@ -68,6 +68,32 @@ fn first_queue(alloc: Global, cells: u32) -> Result<Queue, Memory>
     Ok(queue)
 }
 
+// The workers as a run begins.
+fn workers_of(alloc: Global, settings: &Settings) -> Result<Workers, Memory>
+    requires { AreInRange settings.now }
+    ensures { IfOk result (λ workers. workers ≡ record { period = period settings.now; all = replicate settings.now.workers resting }) }
+{
+    let period = (INSTRUCTIONS_PER_SECOND / settings.hz) as u64;
+    Workers::new(alloc, settings.workers, period)
+}
+
+// The goroutines and the wait lists as a run begins: `main` is born, and nobody waits.
+fn first_tables(
+    alloc: Global,
+    program: &Program,
+    cells: u32,
+) -> Result<(Goroutines, WaitLists), Memory>
+    requires some { 1 ≤ cells }
+    requires few { cells ≤ most_cells }
+    ensures goroutines { IfOk result (λ tables.
+        tables.0 ≡ record { cells = cells; all = main_goroutine (code_of program.now) ∷ []; active = 0 }) }
+    ensures waits { IfOk result (λ tables. tables.1 ≡ at_start program.now cells) }
+{
+    let goroutines = Goroutines::new(alloc, cells, main_goroutine(program))?;
+    let waits = WaitLists::new(alloc, program, cells)?;
+    Ok((goroutines, waits))
+}
+
 impl<R: Run> Present<R> {
     /// The first state of a run. It takes all memory here.
     pub fn new(alloc: Global, program: &Program, settings: &Settings) -> Result<Present<R>, Memory>
@@ -79,12 +105,17 @@ impl<R: Run> Present<R> {
         // (it has no effect, but tells that the program lies in its limits)
         let _ = program.parts();
         let cells = settings.cells;
+        // (what frees least is made first: each value that is there is dropped where the next takes no memory)
+        let workers = workers_of(alloc, settings)?;
+        let queue = first_queue(alloc, cells)?;
+        let plan = plan_of(alloc, program, settings)?;
+        let (goroutines, waits) = first_tables(alloc, program, cells)?;
         Ok(Present {
-            plan: plan_of(alloc, program, settings)?,
-            goroutines: Goroutines::new(alloc, cells, main_goroutine(program))?,
-            queue: first_queue(alloc, cells)?,
-            waits: WaitLists::new(alloc, program, cells)?,
-            workers: Workers::new(alloc, settings.workers)?,
+            plan,
+            goroutines,
+            queue,
+            waits,
+            workers,
             clock: 0,
             served: 0,
             last_epoch: 0,

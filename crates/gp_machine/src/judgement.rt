@@ -84,10 +84,8 @@ impl<R: Run> Present<R> {
         requires { (worker self.now w).slice ≤ quantum }
         ensures { let v = worker self.now w in result ≡ min local (min (to_tick R.settings v) (quantum - v.slice)) }
     {
-        let worker = self.worker(w);
-        let between = self.plan.period;
-        let to_tick = between - worker.instructions % between;
-        local.min(to_tick.min(QUANTUM - worker.slice))
+        let left = QUANTUM - self.worker(w).slice;
+        local.min(self.workers.to_tick(w).min(left))
     }
 
     /// What is due while w runs g.

@@ -43,8 +43,8 @@ mod workers;
 
 pub use gp_journal::{
     Applied, Counts, Ended, Entry, Foreseen, Goroutine, Journal, NO_CELL, Picks, Refusals, Request,
-    Requests, Run, Settings, SharedPoint, Status, UNLOCK_OF_FREE, Wait, Woken, Worker, law_journal,
-    law_numbers, law_runs, law_worked,
+    Requests, Run, Settings, SharedPoint, Status, UNLOCK_OF_FREE, Wait, Woken, Worker, law_entries,
+    law_journal, law_numbers, law_records, law_runs, law_worked,
 };
 pub use machine::Machine;
 pub use queue::Queue;

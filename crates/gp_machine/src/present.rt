@@ -19,12 +19,11 @@ use gp_journal::{Goroutine, Request, Run, Status, Worker};
 use gp_sync::WaitLists;
 use std::marker::{Model, PhantomData};
 
-/// What stays of a run: the length of each function's trace, how many instructions lie between two ticks, the number
-/// of entries at which the journal is full, and the requests.
+/// What stays of a run: the length of each function's trace, the number of entries at which the journal is full, and the
+/// requests.
 #[derive(Debug, Drop)]
 pub struct Plan {
     pub lengths: Vec<u64>,
-    pub period: u64,
     pub entries: u32,
     pub at: Vec<Request>,
 }
@@ -57,7 +56,7 @@ impl<R: Run> Model for Present<R> {
       queue = p.queue.items;
       channels = p.waits.channels;
       mutexes = p.waits.mutexes;
-      workers = p.workers;
+      workers = p.workers.all;
       clock = p.clock;
       requests = drop p.served p.plan.at.items;
       active = p.goroutines.active;
@@ -66,7 +65,7 @@ impl<R: Run> Model for Present<R> {
       entries = p.entries;
     } };
 
-    ghost invariant = { λ p. FitsRun R.program R.settings p.plan p.waits.capacities
+    ghost invariant = { λ p. FitsRun R.program R.settings p.plan p.waits.capacities p.workers.period
         × HasCells R.settings p.goroutines.cells p.queue.cells p.waits.cells };
 }
 
@@ -251,7 +250,7 @@ impl<R: Run> Present<R> {
         requires slice { (worker self.old w).slice + n < 2 ^ 64 }
         ensures { self.new ≡ with_worker w (effect.worked R.settings n died (worker self.old w)) self.old }
     {
-        self.workers.works(self.plan.period, w, n, died);
+        self.workers.works(w, n, died);
     }
 
     /// w begins to run g.

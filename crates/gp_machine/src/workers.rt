@@ -1,9 +1,9 @@
-ghost use Rattle.std.specs.Prelude.{◌≡◌, ◌<◌, ◌≤◌, ◌+◌, ◌^◌, true, length, get_or, set, take, replicate, count_by, IfOk};
+ghost use Rattle.std.specs.Prelude.{◌≡◌, ◌<◌, ◌≤◌, ◌+◌, ◌-◌, ◌%◌, ◌^◌, ◌==◌, true, length, get_or, set, take, replicate, count_by, IfOk};
 ghost use Rattle.gp_isa.specs.Limits.{most_workers};
 ghost use Rattle.gp_journal.specs.State.{resting};
 ghost use Rattle.gp_journal.specs.Effect as effect;
 ghost use Rattle.gp_machine.specs.OnWorker.{is_busy};
-ghost use Rattle.gp_machine.specs.kept.Workers.{worked_by};
+ghost use Rattle.gp_machine.specs.kept.Workers.{left_of, worked_at, worked_by};
 
 use crate::goroutines::moved;
 use gp_isa::Memory;
@@ -11,23 +11,28 @@ use gp_journal::Worker;
 use std::alloc::Global;
 use std::marker::Model;
 
-/// The workers, by number. How many run a goroutine is counted as they start one and leave it.
+/// The workers, by number.
+///
+/// How many run a goroutine is counted as they start one and leave it. How many instructions each has left to its next
+/// tick is counted down, so that a division is made at a tick alone.
 #[derive(Debug, Drop)]
 pub struct Workers {
+    // how many instructions of a worker lie between two ticks
+    period: u64,
     all: Vec<Worker>,
+    // by worker: how many are left to its next tick
+    to_tick: Vec<u64>,
     busy: u32,
 }
 
 impl Model for Workers {
-    ghost use Rattle.std.specs.Prelude.{List};
-    ghost use Rattle.gp_journal.specs.declared.goroutine.Worker.{Worker};
-    ghost use Rattle.gp_machine.specs.kept.Workers.{AreKept};
+    ghost use Rattle.gp_machine.specs.kept.Workers.{Crew, AreKept};
 
-    ghost Value = { List Worker };
+    ghost Value = { Crew };
 
-    ghost view = { λ w. w.all.items };
+    ghost view = { λ w. record { period = w.period; all = w.all.items } };
 
-    ghost invariant = { λ w. AreKept w.all.items w.busy };
+    ghost invariant = { λ w. AreKept w.period w.all.items w.to_tick.items w.busy };
 }
 
 const RESTING: Worker = Worker {
@@ -37,18 +42,35 @@ const RESTING: Worker = Worker {
     tick: false,
 };
 
-// A worker runs n instructions more, and its goroutine has died or not.
-fn work(worker: &mut Worker, between: u64, n: u64, died: bool)
-    requires some { 0 < between }
+// A worker with so many instructions runs n more: `left` is how many it has left to its next tick. It tells whether it
+// comes to one.
+fn count_down(left: &mut u64, period: u64, instructions: u64, n: u64) -> bool
+    requires some { 0 < period }
+    requires left { left.old ≡ period - instructions % period }
+    requires room { instructions + n < 2 ^ 64 }
+    ensures left { left.new ≡ period - (instructions + n) % period }
+    ensures comes { result ≡ ((instructions + n) % period == 0) }
+{
+    if 0 < n && n < *left {
+        *left -= n;
+        return false;
+    }
+    let past = (instructions + n) % period;
+    *left = period - past;
+    past == 0
+}
+
+// A worker has run n instructions more, which brought it to a tick or not, and its goroutine has died or not.
+fn work(worker: &mut Worker, n: u64, died: bool, at_tick: bool)
     requires instructions { worker.old.instructions + n < 2 ^ 64 }
     requires slice { worker.old.slice + n < 2 ^ 64 }
-    ensures { worker.new ≡ worked_by between n died worker.old }
+    ensures { worker.new ≡ worked_at n died at_tick worker.old }
 {
     worker.instructions += n;
     worker.slice += n;
     if died {
         worker.runs = None;
-    } else if worker.instructions % between == 0 {
+    } else if at_tick {
         worker.tick = true;
     }
 }
@@ -74,45 +96,51 @@ fn busy_at(all: &[Worker], place: u32) -> u32
 }
 
 impl Workers {
-    /// So many, which run nothing. Nothing that is done with them takes memory after.
-    pub fn new(alloc: Global, count: u32) -> Result<Workers, Memory>
-        requires { count ≤ most_workers }
-        ensures { IfOk result (λ workers. workers ≡ replicate count resting) }
+    /// So many, which run nothing, and between whose ticks lie so many instructions. Nothing that is done with them takes
+    /// memory after.
+    pub fn new(alloc: Global, count: u32, period: u64) -> Result<Workers, Memory>
+        requires few { count ≤ most_workers }
+        requires some { 0 < period }
+        ensures { IfOk result (λ workers. workers ≡ record { period = period; all = replicate count resting }) }
     {
+        let all = vec![in alloc; RESTING; count as usize]?;
+        let to_tick = vec![in alloc; period; count as usize]?;
         Ok(Workers {
-            all: vec![in alloc; RESTING; count as usize]?,
+            period,
+            all,
+            to_tick,
             busy: 0,
         })
     }
 
     /// The worker of a number, one that rests where there is none.
     pub fn get(&self, w: u32) -> Worker
-        ensures { result ≡ get_or self.now w resting }
+        ensures { result ≡ get_or self.now.all w resting }
     {
         self.all.get(w as usize).copied().unwrap_or(RESTING)
     }
 
     /// How many run a goroutine.
     pub fn busy(&self) -> u32
-        ensures { result ≡ count_by is_busy self.now }
+        ensures { result ≡ count_by is_busy self.now.all }
     {
         self.busy
     }
 
     /// The worker at a place, counted from 0, among those that run a goroutine.
     pub fn busy_at(&self, place: u32) -> u32
-        requires { place < count_by is_busy self.now }
-        ensures within { result < length self.now }
-        ensures busy { is_busy (get_or self.now result resting) ≡ true }
-        ensures before { count_by is_busy (take result self.now) ≡ place }
+        requires { place < count_by is_busy self.now.all }
+        ensures within { result < length self.now.all }
+        ensures busy { is_busy (get_or self.now.all result resting) ≡ true }
+        ensures before { count_by is_busy (take result self.now.all) ≡ place }
     {
         busy_at(&self.all, place)
     }
 
     /// w begins to run g.
     pub fn starts(&mut self, w: u32, g: u32)
-        requires { w < length self.old }
-        ensures { self.new ≡ set self.old w (effect.started g (get_or self.old w resting)) }
+        requires { w < length self.old.all }
+        ensures { self.new ≡ record self.old { all = set self.old.all w (effect.started g (get_or self.old.all w resting)) } }
     {
         let worker = &mut self.all[w as usize];
         let was = worker.runs.is_some();
@@ -123,8 +151,8 @@ impl Workers {
 
     /// w leaves its goroutine.
     pub fn leaves(&mut self, w: u32)
-        requires { w < length self.old }
-        ensures { self.new ≡ set self.old w (effect.left (get_or self.old w resting)) }
+        requires { w < length self.old.all }
+        ensures { self.new ≡ record self.old { all = set self.old.all w (effect.left (get_or self.old.all w resting)) } }
     {
         let worker = &mut self.all[w as usize];
         let was = worker.runs.is_some();
@@ -132,24 +160,32 @@ impl Workers {
         self.busy = moved(self.busy, was, false);
     }
 
-    /// w runs n instructions more, of which so many lie between two ticks, and its goroutine has died or not.
-    pub fn works(&mut self, between: u64, w: u32, n: u64, died: bool)
-        requires within { w < length self.old }
-        requires some { 0 < between }
-        requires instructions { (get_or self.old w resting).instructions + n < 2 ^ 64 }
-        requires slice { (get_or self.old w resting).slice + n < 2 ^ 64 }
-        ensures { self.new ≡ set self.old w (worked_by between n died (get_or self.old w resting)) }
+    /// How many instructions w has left to its next tick.
+    pub fn to_tick(&self, w: u32) -> u64
+        ensures { result ≡ left_of self.now.period (get_or self.now.all w resting) }
+    {
+        self.to_tick.get(w as usize).copied().unwrap_or(self.period)
+    }
+
+    /// w has run n instructions more, and its goroutine has died or not.
+    pub fn works(&mut self, w: u32, n: u64, died: bool)
+        requires within { w < length self.old.all }
+        requires instructions { (get_or self.old.all w resting).instructions + n < 2 ^ 64 }
+        requires slice { (get_or self.old.all w resting).slice + n < 2 ^ 64 }
+        ensures { self.new ≡ record self.old { all = set self.old.all w (worked_by self.old.period n died (get_or self.old.all w resting)) } }
     {
         let worker = &mut self.all[w as usize];
         let was = worker.runs.is_some();
-        work(worker, between, n, died);
+        let left = &mut self.to_tick[w as usize];
+        let at_tick = count_down(left, self.period, worker.instructions, n);
+        work(worker, n, died, at_tick);
         self.busy = moved(self.busy, was, was && !died);
     }
 
     /// w's due tick is cleared.
     pub fn ticks(&mut self, w: u32)
-        requires { w < length self.old }
-        ensures { self.new ≡ set self.old w (effect.ticked (get_or self.old w resting)) }
+        requires { w < length self.old.all }
+        ensures { self.new ≡ record self.old { all = set self.old.all w (effect.ticked (get_or self.old.all w resting)) } }
     {
         let worker = &mut self.all[w as usize];
         worker.tick = false;

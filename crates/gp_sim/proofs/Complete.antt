@@ -13,9 +13,9 @@ use Rattle.gp_journal.specs.Settings.{AreInRange}
 use Rattle.gp_journal.specs.State.{Code, State, nobody, goroutine, worker, is_runnable, is_running, is_dead, running}
 use Rattle.gp_journal.specs.Due.{asked, over, is_ready, some_ready, is_full, has_come, calls_for, IsComplete}
 use Rattle.gp_journal.specs.Run.{last, at}
-use Rattle.gp_machine.specs.Crowd.{first_behind, one_if}
+use Rattle.gp_machine.specs.kept.Crowd.{one_if}
 use Rattle.gp_journal.specs.Reached.{IsReached}
-use Rattle.gp_journal.specs.Standing.{head_of}
+use Rattle.gp_journal.specs.Standing.{head_of, first_behind}
 use Rattle.gp_journal.proofs.Lemmas.{statuses_match_workers, is_kept, holds_runnable, runs_there}
 use Rattle.gp_sim.specs.Choice.{goes_on_with, idle_action, action_of_worker, worker_action, goes_on, answers, profiler_action, with_action, actions_from, actions, chosen}
 use Rattle.gp_sim.proofs.Enabled.{count_none, none_chosen}

@@ -14,14 +14,14 @@ use gp_isa::{Program, limits};
 use gp_machine::{Entry, Machine, Run, Settings, SharedPoint};
 
 /// What an actor does: its entry, and where that is an Op, its goroutine's next point.
-#[derive(Clone, Copy, Debug)]
+#[derive(Clone, Copy)]
 pub(crate) struct Action {
     pub(crate) entry: Entry,
     pub(crate) point: Option<SharedPoint>,
 }
 
 /// A turn, and where its entry is an Op, its goroutine's next point.
-#[derive(Clone, Copy, Debug)]
+#[derive(Clone, Copy)]
 pub(crate) struct Step {
     pub(crate) turn: Turn,
     pub(crate) point: Option<SharedPoint>,

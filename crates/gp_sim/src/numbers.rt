@@ -10,14 +10,14 @@ use rand_pcg::Pcg32;
 use std::marker::{Model, PhantomData};
 
 /// What one turn does: its entry, and how many numbers were taken once it is made.
-#[derive(Clone, Copy, Debug)]
+#[derive(Clone, Copy)]
 pub struct Turn {
     pub entry: Entry,
     pub taken: usize,
 }
 
 /// Which of those that can act does, by its place among them, and how many numbers were taken once its turn is made.
-#[derive(Clone, Copy, Debug)]
+#[derive(Clone, Copy)]
 pub(crate) struct Draw {
     pub(crate) place: u32,
     pub(crate) taken: usize,

@@ -2,7 +2,6 @@
 use Rattle.std.specs.Prelude.{◌≡◌, ◌+◌, ◌≤◌, ℕ, Bool, false, not, ◌&&◌, List, length, get_or, count_by, if◌then◌else◌}
 use Rattle.gp_journal.specs.declared.goroutine.Goroutine.{Goroutine}
 use Rattle.gp_isa.specs.Limits.{most_cells}
-pub use Rattle.gp_journal.specs.Standing.{first_behind}
 use Rattle.gp_journal.specs.State.{nobody, is_runnable, is_running, is_live, is_behind}
 
 -- The goroutines by number, at most so many as there are cells, and the epoch of the active profile.

@@ -13,20 +13,21 @@ use Rattle.gp_journal.specs.Settings.{AreInRange, period}
 use Rattle.gp_journal.specs.State.{State, goroutine, worker, births}
 use Rattle.gp_journal.specs.Standing.{times}
 
--- The numbers that stay are those of a program and its options: the length of each trace, the period of the ticks,
--- the number of entries at which the journal is full, and the requests.
+-- The numbers that stay are those of a program and its options: the length of each trace, the number of entries at which
+-- the journal is full, and the requests.
 pub record FitsPlan (program : Parts) (settings : Settings) (plan : Plan) : Type 0 where
   pub length_each : (f : ℕ) → get_or plan.lengths.items f 0 ≡ length (trace program f)
-  pub its_period : plan.period ≡ period settings
   pub its_entries : plan.entries ≡ settings.entries
   pub its_requests : plan.at.items ≡ settings.at
 
--- They belong to a program in its limits and options in their ranges, and the channels' capacities are the program's.
-pub record FitsRun (program : Parts) (settings : Settings) (plan : Plan) (capacities : List ℕ) : Type 0 where
+-- They belong to a program in its limits and options in their ranges, and the channels' capacities are the program's and
+-- the ticks' period the options'.
+pub record FitsRun (program : Parts) (settings : Settings) (plan : Plan) (capacities : List ℕ) (between : ℕ) : Type 0 where
   pub in_range : AreInRange settings
   pub in_limits : AreInLimits program
   pub planned : FitsPlan program settings plan
   pub its_capacities : capacities ≡ map (λ (declared : ChannelDecl). declared.capacity) program.channels
+  pub its_period : between ≡ period settings
 
 -- each table has a place for each cell
 pub record HasCells (settings : Settings) (goroutines queue waits : ℕ) : Type 0 where
