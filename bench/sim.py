@@ -1,9 +1,10 @@
 """Times simulated runs: sim.py GP PROGRAMS ROUNDS [BESIDE], in an empty folder; sim.sh calls it.
 
 Times are processor time, user and system, the least of ROUNDS rounds in which gp and Go take turns, so that a machine that is
-slow for a while is slow for both. `MiB` is the largest peak of memory. `growth` is the exponent of the time by the
-quantity that doubles, over the upper half of the rows: 1 is linear. An entry is one of the journal; how many a run makes is
-found by halving, since a journal that is too short ends with a status of its own.
+slow for a while is slow for both. `MiB` is the largest peak of memory, and no less than that of the Python that starts the
+program. `growth` is the exponent of the time by the quantity that doubles, over the upper half of the rows: 1 is linear. An
+entry is one of the journal; how many a run makes is found by halving, since a journal that is too short ends with a status of
+its own.
 """
 
 import math
@@ -36,19 +37,19 @@ def sim(*options):
     return [gp, "sim", *map(str, options)]
 
 
-def measure(commands, status=0, go=None, told=False):
+def measure(commands, status=0, go=None, is_told=False):
     """Least processor times and largest memory of each of these commands, and the least time of Go, taken in turns."""
     found = [[math.inf, 0.0] for _ in commands]
     of_go = math.inf
     for _ in range(rounds):
         for at, words in enumerate(commands):
             took, memory, ended, said = once(words)
-            if ended != status:
+            if status is not None and ended != status:
                 print(f"  {' '.join(words[1:])}: status {ended} in place of {status} {said}")
             found[at] = [min(found[at][0], took), max(found[at][1], memory)]
         if go and beside:
             took, _, _, said = once([beside[0], *map(str, go)], {"GOMAXPROCS": "1"})
-            of_go = min(of_go, float(said) if told else took)
+            of_go = min(of_go, float(said) if is_told else took)
     return found, of_go
 
 
@@ -80,8 +81,11 @@ def head(*columns):
 
 
 def row(*columns):
-    told = (it if isinstance(it, str) else f"{it:.0f}" if isinstance(it, int) else "-" if not math.isfinite(it) else f"{it:.3g}" for it in columns)
-    print("".join(f"{it:>14}" for it in told), flush=True)
+    print("".join(f"{told(it):>14}" for it in columns), flush=True)
+
+
+def told(it):
+    return it if isinstance(it, str) else str(it) if isinstance(it, int) else f"{it:.3g}" if math.isfinite(it) else "-"
 
 
 print(f"processors {os.cpu_count()}, load {os.getloadavg()[0]:.1f}, rounds {rounds}")
@@ -109,14 +113,17 @@ for kind, title in (
                 row(workers, n, made, took / made * 1e9, each * 1e9, of_go / operations * 1e9, each * operations / of_go, memory)
         print(f"{'':>14}growth with goroutines {growth(rows):.2f}")
 
-print("\nFiles that make an entry dear. (`climb`: a call is one that is entered and left.)")
-head("file", "size", "workers", "entries", "ns/entry", "ns/call", "MiB")
-for kind, size in (("twice", 30), ("twice", 250), ("row", 1_000), ("row", 149_000), ("climb", 2), ("climb", 32), ("climb", 250)):
+print("\nFiles that make an entry dear, less what reading them takes. A call is one that is entered and left again.")
+head("file", "size", "entries", "ns/entry", "ns/call", "MiB")
+least = math.nan
+for kind, size in (("twice", 38), ("twice", 250), ("row", 149_000), ("climb", 2), ("climb", 32), ("climb", 250)):
     program("it.gp", kind, size)
-    made = entries("it.gp", "--workers", 1) if kind != "twice" else 4096
-    options = ["--workers", 1, "--entries", made]
-    ((took, memory),), _ = measure([sim("it.gp", *options)], status=FULL if kind == "twice" else 0)
-    row(kind, size, 1, made, took / made * 1e9, took / (4096 * size) * 1e9 if kind == "climb" else math.nan, memory)
+    made = 4096 if kind == "twice" else entries("it.gp", "--workers", 1)
+    (begun, whole), _ = measure([sim("it.gp", "--workers", 1, "--entries", it) for it in (LEAST, made)], status=None)
+    took = whole[0] - begun[0]
+    least = took if (kind, size) == ("climb", 2) else least
+    call = (took - least) / (4096 * (size - 2)) if kind == "climb" and size > 2 else math.nan
+    row(kind, size, made, took / (made - LEAST) * 1e9, call * 1e9, whole[1])
 
 print("\nReading and judging a file: 256 functions that each call the next one, the callers first; and one function of as many bytes.")
 head("KiB", "wide, ms", "row, ms", "MiB")
@@ -136,7 +143,8 @@ for kind in ("same", "distinct"):
     for n in (1024, 2048, 4096, 8192, 16384):
         _, stacks = program("it.gp", "blocked", n, kind)
         options = ["it.gp", "--workers", 1, "--cells", 16384, "--room", 16384, "--entries", MOST]
-        (plain, profiled), of_go = measure([sim(*options), sim(*options, *["--at", "end"] * 8)], status=6, go=("blocked", n, kind), told=True)
+        runs = [sim(*options), sim(*options, *["--at", "end"] * 8)]
+        (plain, profiled), of_go = measure(runs, status=6, go=("blocked", n, kind), is_told=True)
         took = (profiled[0] - plain[0]) / 8
         rows.append((n, took))
         row(stacks, n, took / n * 1e6, of_go / n * 1e6, took / of_go, profiled[1])
