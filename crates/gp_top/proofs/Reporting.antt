@@ -1,16 +1,20 @@
 -- What a report tells of the journal of a run.
-use Rattle.std.proofs.Common.{◌≡◌, ℕ, List, [], ◌∷◌, ◌++◌, length, map, refl, ap, ◌∙◌}
+use Rattle.std.proofs.Common.{◌≡◌, ◌≤◌, ◌<◌, ◌+◌, inl, inr, ℕ, List, [], ◌∷◌, ◌++◌, length, get_or, take, map, refl, sym, ap, subst, ◌∙◌, arith}
+use Rattle.std.proofs.lemmas.Bool.{cases_lt}
+use Rattle.std.proofs.lemmas.List.{get_or_append_left, get_or_push, length_push, length-map, get_or-map, take_more, take_all}
 use Rattle.gp_journal.specs.declared.entry.Entry.{Entry}
 use Rattle.gp_journal.specs.declared.entry.Entry.TheVariants.{Open, Refuse, Record, Close}
+use Rattle.gp_journal.specs.declared.goroutine.Worker.{Worker}
 use Rattle.gp_journal.specs.declared.settings.Settings.{Settings}
 use Rattle.gp_machine.specs.Settings.{AreInRange}
-use Rattle.gp_machine.specs.State.{Code, State, first}
+use Rattle.gp_machine.specs.State.{Code, State, first, resting}
 use Rattle.gp_machine.specs.Effect.{after}
 use Rattle.gp_machine.specs.Run.{IsLegal, last}
 use Rattle.gp_machine.specs.Frozen.{rows_taken}
+use Rattle.gp_machine.specs.Made.{made_by}
 use Rattle.gp_journal.proofs.Lemmas.{kept_at}
 use Rattle.gp_journal.specs.Profiles.{records_from, records_of}
-use Rattle.gp_top.specs.Report.{ids_taken, recorded_ids, ids, refusals}
+use Rattle.gp_top.specs.Report.{ids_taken, recorded_ids, ids, refusals, AreMade}
 
 pub refusals_more : (xs : List Entry) (x : Entry) → refusals (xs ++ x ∷ []) ≡ refusals xs ++ refusals (x ∷ [])
 refusals_more [] x = refl
@@ -23,8 +27,48 @@ none_refused (Refuse room n) isnt = absurd (isnt room n refl)
 none_refused x isnt = refl
 
 -- a journal's workers are as many as the options say
-pub number_of_workers : (code : Code) (settings : Settings) (journal : List Entry) → AreInRange settings → IsLegal code settings journal → length (last code settings journal).workers ≡ settings.workers
-number_of_workers code settings journal range legal = (kept_at code settings journal range legal).numbered.number
+pub number_of_workers : (code : Code) (settings given : Settings) (journal : List Entry) → given ≡ settings → AreInRange given → IsLegal code settings journal
+    → length (last code settings journal).workers ≡ given.workers
+number_of_workers code settings given journal same range legal =
+    (kept_at code settings journal (subst AreInRange same range) legal).numbered.number ∙ sym (ap (λ (s : Settings). s.workers) same)
+
+abbrev pub instructions_of : Worker → ℕ
+instructions_of worker = worker.instructions
+
+-- the instructions of one worker more
+pub done_more : (workers : List Worker) (done now : List ℕ) (at n : ℕ) → at < length workers → done ≡ take at (map instructions_of workers)
+    → n ≡ (get_or workers at resting).instructions → now ≡ done ++ n ∷ [] → now ≡ take (at + 1) (map instructions_of workers)
+done_more workers done now at n within so_far is pushed =
+    pushed ∙ (ap (λ (l : List ℕ). l ++ n ∷ []) so_far
+    ∙ (ap (λ (k : ℕ). take at (map instructions_of workers) ++ k ∷ []) (is ∙ sym (get_or-map instructions_of workers at resting 0 within))
+    ∙ sym (take_more (map instructions_of workers) at 0 (omega (arith, length-map workers instructions_of)))))
+
+-- the instructions of all workers
+pub all_done : (workers : List Worker) (done all : List ℕ) (at : ℕ) → length workers ≤ at → done ≡ take at (map instructions_of workers) → all ≡ done
+    → all ≡ map instructions_of workers
+all_done workers done all at past so_far is =
+    is ∙ (so_far ∙ take_all at (map instructions_of workers) (omega (arith, length-map workers instructions_of)))
+
+-- the number of entries of one actor more
+pub made_more : (settings : Settings) (journal : List Entry) (made now : List ℕ) (at n : ℕ) → length made ≡ at
+    → ((actor : ℕ) → actor < at → get_or made actor 0 ≡ made_by settings actor journal) → n ≡ made_by settings at journal → now ≡ made ++ n ∷ []
+    → (actor : ℕ) → actor < at + 1 → get_or now actor 0 ≡ made_by settings actor journal
+made_more settings journal made now at n number each is pushed actor below = elim (cases_lt actor at) [
+  | inl low ↦ ap (λ (l : List ℕ). get_or l actor 0) pushed ∙ (get_or_append_left made (n ∷ []) 0 actor (omega arith) ∙ each actor low)
+  | inr high ↦
+      let here : actor ≡ at = omega arith in
+      ap (λ (l : List ℕ). get_or l actor 0) pushed ∙ (get_or_push made n 0 actor (number ∙ sym here) ∙ (is ∙ ap (λ (a : ℕ). made_by settings a journal) (sym here)))
+]
+
+pub number_more : (made now : List ℕ) (at n : ℕ) → length made ≡ at → now ≡ made ++ n ∷ [] → length now ≡ at + 1
+number_more made now at n number pushed = ap length pushed ∙ (length_push made n ∙ ap (λ (k : ℕ). k + 1) number)
+
+-- the numbers of all actors
+pub all_made : (settings given : Settings) (journal : List Entry) (made : List ℕ) (at : ℕ) → given ≡ settings → length made ≡ at → at ≤ given.workers + 1
+    → given.workers + 1 ≤ at → ((actor : ℕ) → actor < at → get_or made actor 0 ≡ made_by settings actor journal) → AreMade settings journal made
+all_made settings given journal made at same number within past each =
+    let workers = ap (λ (s : Settings). s.workers) same in
+    record { actors = omega (arith, workers); each = λ actor few. each actor (omega (arith, workers)) }
 
 module _ (code : Code) (settings : Settings) where
   taken_ids : (s : State) (entries : List Entry) → ids (rows_taken code settings s entries) ≡ ids_taken entries

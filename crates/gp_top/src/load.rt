@@ -8,7 +8,7 @@ use gp_text::{TextError, read};
 use std::alloc::Global;
 
 /// Why the source gave no program.
-#[derive(Clone, Copy, Debug, PartialEq, Eq)]
+#[derive(Clone, Copy)]
 pub(crate) enum LoadError {
     /// Its bytes are no program's text, or too many.
     Refused,

@@ -13,7 +13,7 @@ use gp_wire::write;
 use std::alloc::Global;
 
 /// Why not all files were put.
-#[derive(Clone, Copy, Debug, PartialEq, Eq)]
+#[derive(Clone, Copy)]
 pub(crate) enum SaveError {
     /// A put failed.
     PutFault,

@@ -21,3 +21,11 @@ returns-in_err-read-clause-refused_whole g c = λ _.
 pub returns-clause-whole : goal.returns-clause-whole
 returns-clause-whole g c =
     whole_read (g.S.Source.left c.args.source.now) (g.S.Source.left c.read_all.new.source) c.in_ok-bytes.bytes c.in_ok-bytes.ensures.all c.in_ok-bytes.ensures.within c.in_ok-bytes.ensures.nothing_left
+
+pub returns-clause-accepted : goal.returns-clause-accepted
+returns-clause-accepted g c = record {
+  bytes = c.in_ok-bytes.bytes;
+  all = c.in_ok-bytes.ensures.all;
+  few = c.in_ok-bytes.ensures.within;
+  gives = rw (sym c.as_slice.ensures) c.in_ok-read.ensures.ok;
+}
