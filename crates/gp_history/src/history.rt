@@ -8,11 +8,12 @@ ghost use Rattle.gp_journal.specs.Answer.{applied};
 ghost use Rattle.gp_journal.specs.Shown.{IsGiven};
 ghost use Rattle.gp_journal.specs.declared.entry.Entry.TheVariants as entry;
 ghost use Rattle.gp_journal.specs.Profiles.{records_of};
+ghost use Rattle.gp_machine.specs.AtPoint.{at_point};
 ghost use Rattle.gp_history.specs.History.{LeavesProfiles, most_rows};
 
 use crate::recorder::Recorder;
 use gp_isa::{Memory, Program};
-use gp_machine::{Applied, Entry, Machine, Run, Settings, SharedPoint};
+use gp_machine::{Applied, AtPoint, Entry, Machine, Run, Settings, SharedPoint};
 use gp_stack::{Profiles, Record};
 use std::alloc::Global;
 use std::marker::Model;
@@ -80,12 +81,24 @@ impl<R: Run> History<R> {
         self.machine.apply(made, point)
     }
 
+    /// Makes an entry as `enter` does, and tells of what it did only what became of a goroutine that came to a shared
+    /// point.
+    pub fn make(&mut self, made: Entry, point: Option<SharedPoint>) -> AtPoint
+        requires may { May (code_of R.program) R.settings (state_of R.program R.settings self.old) made }
+        requires leaves { LeavesProfiles made }
+        requires point { IsGiven (code_of R.program) (state_of R.program R.settings self.old) made point }
+        ensures journal { self.new ≡ self.old ++ made ∷ [] }
+        ensures at_point { result ≡ at_point (applied (code_of R.program) R.settings (state_of R.program R.settings self.old) made) }
+    {
+        self.machine.make(made, point)
+    }
+
     /// A profile is opened.
     pub fn open(&mut self, epoch: u32, room: u32)
         requires { May (code_of R.program) R.settings (state_of R.program R.settings self.old) (entry.Open epoch room) }
         ensures { self.new ≡ self.old ++ entry.Open epoch room ∷ [] }
     {
-        self.machine.apply(Entry::Open { epoch, room }, None);
+        self.machine.make(Entry::Open { epoch, room }, None);
         self.recorder.begin();
     }
 
@@ -95,7 +108,7 @@ impl<R: Run> History<R> {
         requires copy { copy ≡ row (code_of R.program) g (goroutine (state_of R.program R.settings self.old) g) }
         ensures { self.new ≡ self.old ++ entry.Record actor g ∷ [] }
     {
-        self.machine.apply(Entry::Record { actor, g }, None);
+        self.machine.make(Entry::Record { actor, g }, None);
         self.recorder.push(copy);
     }
 
@@ -104,7 +117,7 @@ impl<R: Run> History<R> {
         requires { May (code_of R.program) R.settings (state_of R.program R.settings self.old) (entry.Close epoch) }
         ensures { self.new ≡ self.old ++ entry.Close epoch ∷ [] }
     {
-        self.machine.apply(Entry::Close { epoch }, None);
+        self.machine.make(Entry::Close { epoch }, None);
         self.recorder.end();
     }
 

@@ -4,8 +4,8 @@
 //! functions of the journal: the machine's state, and for each profile that was opened the list of its records, which
 //! are the rows of its Record entries in their order (`records_of` of `gp_journal`), so that sorted they are the rows of
 //! all goroutines that were live at its Open. There is one call for each kind of entry, in place, which takes what the
-//! entry leaves and carries all of that on: `enter` for entries of workers and for a Refuse, `open`, `record` with the
-//! copy of the goroutine's row, and `close`. Who acts, and where bodies stand, is the driver's.
+//! entry leaves and carries all of that on: `enter` for entries of workers and for a Refuse (`make` does the same and tells
+//! less), `open`, `record` with the copy of the goroutine's row, and `close`. Who acts, and where bodies stand, is the driver's.
 //!
 //! No call but `new` takes memory, so none of them can fail once an entry is chosen. `new` reserves a list for each
 //! request, with room for as many records as a profile can have: no more than there are cells, and no more than the

@@ -23,5 +23,6 @@ pub use Rattle.gp_journal.specs.Worked
 pub use Rattle.gp_journal.specs.Named
 pub mod Queue
 pub mod OnWorker
+pub mod AtPoint
 pub mod kept
 pub use Rattle.gp_machine.specs.kept.Made

@@ -27,9 +27,11 @@
 //! ```
 //!
 //! `apply` answers `Passed`: goroutine 1 was woken, which had waited since 1000 for a mutex; no wait of 0 has ended, and
-//! neither has its trace.
+//! neither has its trace. `make` does the same, and tells no more than what became of goroutine 0 (`AtPoint`), for whoever
+//! only moves bodies on.
 #![tactic(auto)]
 
+mod at_point;
 mod beginning;
 mod entries;
 mod goroutines;
@@ -41,6 +43,7 @@ mod present;
 mod queue;
 mod workers;
 
+pub use at_point::AtPoint;
 pub use gp_journal::{
     Applied, Counts, Ended, Entry, Foreseen, Goroutine, Journal, NO_CELL, Picks, Refusals, Request,
     Requests, Run, Settings, SharedPoint, Status, UNLOCK_OF_FREE, Wait, Woken, Worker, law_entries,

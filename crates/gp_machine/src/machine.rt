@@ -8,11 +8,13 @@ ghost use Rattle.gp_journal.specs.May.{May};
 ghost use Rattle.gp_journal.specs.Run.{IsLegal, state_of};
 ghost use Rattle.gp_journal.specs.Answer.{applied};
 ghost use Rattle.gp_journal.specs.Standing.{head_of, first_behind};
+ghost use Rattle.gp_machine.specs.AtPoint.{at_point};
 ghost use Rattle.gp_machine.specs.OnWorker.{busy, IsBusyAt, IsPeekOn, IsDueOn, OpIsDueOn, IsNextOn, IsForeseenOn};
 ghost use Rattle.gp_journal.specs.Shown.{IsGiven};
 ghost use Rattle.gp_journal.specs.Actors.{actor_of, made_by};
 ghost use Rattle.gp_journal.specs.NumberLaws.{most_entries};
 
+use crate::at_point::AtPoint;
 use crate::present::Present;
 use gp_isa::limits::REQUESTS;
 use gp_isa::{Memory, Program, Sequence};
@@ -108,6 +110,17 @@ impl<R: Run> Machine<R> {
             Err(_) => unreachable!(),
         }
         answer
+    }
+
+    /// Makes an entry as `apply` does, and tells of what it did only what became of a goroutine that came to a shared
+    /// point.
+    pub fn make(&mut self, made: Entry, point: Option<SharedPoint>) -> AtPoint
+        requires legal { May (code_of R.program) R.settings (state_of R.program R.settings self.old) made }
+        requires point { IsGiven (code_of R.program) (state_of R.program R.settings self.old) made point }
+        ensures journal { self.new ≡ self.old ++ made ∷ [] }
+        ensures at_point { result ≡ at_point (applied (code_of R.program) R.settings (state_of R.program R.settings self.old) made) }
+    {
+        AtPoint::of(self.apply(made, point))
     }
 
     /// The entry that is due on worker `w`, which runs a goroutine. `peek` is the look ahead of its body, up to 1,000

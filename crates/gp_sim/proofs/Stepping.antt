@@ -26,7 +26,11 @@ use Rattle.gp_journal.specs.Reached.{IsReached}
 use Rattle.gp_journal.specs.Shown.{IsPointOf}
 use Rattle.gp_journal.proofs.Lemmas.{after_all-append, behind_parts, leaves_bodies, first_bodies, stays, follows_run, op_bears, has_body, runner_live, run_ahead, op_at_shared, point_is, row_is, bodies_follow, bodies_gain, nobody_born, appended}
 use Rattle.gp_journal.specs.Bodies.{nowhere, AreBodiesOf, further, moved_on, followed, gained}
+use Rattle.gp_machine.specs.declared.at_point.AtPoint.{AtPoint}
+use Rattle.gp_machine.specs.declared.at_point.AtPoint.TheVariants.{Bears}
+use Rattle.gp_machine.specs.AtPoint.{at_point}
 use Rattle.gp_history.specs.History.{LeavesProfiles}
+use Rattle.gp_sim.specs.kept.Bodies.{gone_on, joined}
 use Rattle.gp_sim.specs.kept.Simulation.{IsSimulation, IsQuiet, BearsNobody}
 
 pub quiet_stays : (entry : Entry) → IsQuiet entry → leaves_bodies entry ≡ true
@@ -45,6 +49,28 @@ quiet_leaves (Open epoch room) quiet = quiet
 quiet_leaves (Record actor g) quiet = quiet
 quiet_leaves (Close epoch) quiet = quiet
 quiet_leaves entry quiet = tt
+
+-- what is told of a point is what the answer tells
+pub gone_on_is : (g : ℕ) (answer : Applied) (bodies : List Progress) → gone_on g (at_point answer) bodies ≡ followed g answer bodies
+gone_on_is g (Plain died) bodies = refl
+gone_on_is g (Passed woke event died) bodies = refl
+gone_on_is g (Born h died) bodies = refl
+gone_on_is g Blocked bodies = refl
+gone_on_is g (Fault cause) bodies = refl
+
+pub joined_is : (answer : Applied) (place : Progress) (bodies : List Progress) → joined (at_point answer) place bodies ≡ gained answer place bodies
+joined_is (Plain died) place bodies = refl
+joined_is (Passed woke event died) place bodies = refl
+joined_is (Born h died) place bodies = refl
+joined_is Blocked place bodies = refl
+joined_is (Fault cause) place bodies = refl
+
+born_by : (P : Type 0) (answer : Applied) → at_point answer ≡ Bears → ((h : ℕ) (died : Bool) → answer ≡ Born h died → P) → P
+born_by P (Plain died) e by = absurd (cc)
+born_by P (Passed woke event died) e by = absurd (cc)
+born_by P (Born h died) e by = by h died refl
+born_by P Blocked e by = absurd (cc)
+born_by P (Fault cause) e by = absurd (cc)
 
 module _ (code : Code) (settings : Settings) (journal : List Entry) (bodies : List Progress) (it : IsSimulation code settings journal bodies) where
   pub reached : IsReached code settings (last code settings journal)
@@ -120,13 +146,18 @@ module _ (program : Parts) (settings : Settings) (journal : List Entry) (bodies 
       by (Fault cause) same = nobody (Fault cause) same (λ h d born_there. absurd (cc))
 
   -- whoever is born has a cell
-  pub cell_left : (g h : ℕ) (died : Bool) (answer : Applied) → answer ≡ op_answer (code_of program) settings g now → answer ≡ Born h died → length (followed g answer bodies) < settings.cells
+  cell_left : (g h : ℕ) (died : Bool) (answer : Applied) → answer ≡ op_answer (code_of program) settings g now → answer ≡ Born h died → length (followed g answer bodies) < settings.cells
   cell_left g h died answer e born =
       let by = op_bears (code_of program) settings now g h died (sym e ∙ born) in
       let each = it.its_bodies.each in
       let some = by.has_cell in
       let same = ap (λ a. length (followed g a bodies)) born in
       omega (arith, length-set bodies g (further 1 (get_or bodies g nowhere)))
+
+  pub cell_left_by : (g : ℕ) (at : AtPoint) → at ≡ at_point (op_answer (code_of program) settings g now) → at ≡ Bears → length (followed g (op_answer (code_of program) settings g now) bodies) < settings.cells
+  cell_left_by g at told bears =
+      born_by (length (followed g (op_answer (code_of program) settings g now) bodies) < settings.cells) (op_answer (code_of program) settings g now) (sym told ∙ bears)
+      (λ h died is. cell_left g h died (op_answer (code_of program) settings g now) refl is)
 
 -- a simulation as it begins
 pub begun : (program : Parts) (settings : Settings) (main : ℕ) (bodies : List Progress) → AreInRange settings → main_of program ≡ Some main → bodies ≡ record { start = main; set = 0; count = 0 } ∷ [] →

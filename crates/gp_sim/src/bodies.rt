@@ -1,15 +1,14 @@
-ghost use Rattle.std.specs.Prelude.{◌≡◌, ◌<◌, ◌≤◌, ◌+◌, ◌++◌, ◌∷◌, [], ℕ, Bool, length, get_or, min, IfOk};
+ghost use Rattle.std.specs.Prelude.{◌≡◌, ◌<◌, ◌≤◌, ◌+◌, ◌++◌, ◌∷◌, [], length, get_or, min, IfOk};
 ghost use Rattle.gp_isa.specs.Trace.{trace};
 ghost use Rattle.gp_stack.specs.Body.{progress_of, StandsIn, IsAtShared};
 ghost use Rattle.gp_stack.specs.Goroutine.{labels_of, local_ahead};
 ghost use Rattle.gp_stack.specs.Peek.{then_at};
 ghost use Rattle.gp_stack.specs.Record.{record_of};
-ghost use Rattle.gp_journal.specs.declared.answer.Applied.TheVariants as applied;
-ghost use Rattle.gp_journal.specs.Bodies.{nowhere, moved_on, followed, gained};
-ghost use Rattle.gp_sim.specs.kept.Bodies.{Shows};
+ghost use Rattle.gp_journal.specs.Bodies.{nowhere, moved_on};
+ghost use Rattle.gp_sim.specs.kept.Bodies.{Shows, gone_on, joined};
 
 use gp_isa::{Memory, Program};
-use gp_machine::{Applied, Run, Settings, SharedPoint};
+use gp_machine::{AtPoint, Run, Settings, SharedPoint};
 use gp_stack::{Body, Peek, Record, Then};
 use std::alloc::Global;
 use std::marker::{Model, PhantomData};
@@ -126,34 +125,30 @@ impl<R: Run> Bodies<R> {
         self.bodies[g as usize].pass(program);
     }
 
-    /// Goes on after g came to a shared point, by what that did: g passes it or stays.
-    pub fn follow(&mut self, program: &Program, g: u32, answer: Applied)
+    /// Goes on after g came to a shared point, by what became of it: g passes it or stays.
+    pub fn follow(&mut self, program: &Program, g: u32, at: AtPoint)
         requires program { program.now ≡ R.program }
         requires born { g < length self.old }
         requires shared { let p = get_or self.old g nowhere in IsAtShared (trace R.program p.start) p.count }
-        ensures { self.new ≡ followed g answer self.old }
+        ensures { self.new ≡ gone_on g at self.old }
     {
-        match answer {
-            Applied::Passed { .. } => self.pass(program, g),
-            Applied::Born { .. } => self.pass(program, g),
-            Applied::Blocked => {}
-            Applied::Fault { .. } => {}
-            Applied::Plain { .. } => {}
+        match at {
+            AtPoint::Passes => self.pass(program, g),
+            AtPoint::Bears => self.pass(program, g),
+            AtPoint::Stays => {}
         }
     }
 
-    /// The body of one who stands ready comes to them, where the answer tells that somebody was born.
-    pub fn gain(&mut self, answer: Applied, born: Body)
+    /// The body of one who stands ready comes to them, where somebody was born.
+    pub fn gain(&mut self, at: AtPoint, born: Body)
         requires stands { StandsIn R.program born }
-        requires room { (h : ℕ) (died : Bool) → answer ≡ applied.Born h died → length self.old < R.settings.cells }
-        ensures { self.new ≡ gained answer (progress_of born) self.old }
+        requires room { at ≡ AtPoint.Bears → length self.old < R.settings.cells }
+        ensures { self.new ≡ joined at (progress_of born) self.old }
     {
-        match answer {
-            Applied::Born { .. } => self.push(born),
-            Applied::Passed { .. } => {}
-            Applied::Blocked => {}
-            Applied::Fault { .. } => {}
-            Applied::Plain { .. } => {}
+        match at {
+            AtPoint::Bears => self.push(born),
+            AtPoint::Passes => {}
+            AtPoint::Stays => {}
         }
     }
 

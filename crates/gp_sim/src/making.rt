@@ -21,7 +21,7 @@ impl<R: Run> Simulation<R> {
         requires quiet { IsQuiet made }
         ensures { self.new ≡ record self.old { journal = self.old.journal ++ made ∷ [] } }
     {
-        self.history.enter(made, None);
+        self.history.make(made, None);
     }
 
     fn open(&mut self, epoch: u32, room: u32)
@@ -44,7 +44,7 @@ impl<R: Run> Simulation<R> {
         requires may { May (code_of R.program) R.settings (state_of R.program R.settings self.old.journal) (entry.Run w g n) }
         ensures { self.new ≡ record self.old { journal = self.old.journal ++ entry.Run w g n ∷ [] } }
     {
-        self.history.enter(Entry::Run { w, g, n }, None);
+        self.history.make(Entry::Run { w, g, n }, None);
         self.bodies.advance(program, g, n);
     }
 
@@ -68,8 +68,8 @@ impl<R: Run> Simulation<R> {
         requires nobody { BearsNobody R.settings (state_of R.program R.settings self.old.journal) point }
         ensures { self.new ≡ record self.old { journal = self.old.journal ++ entry.Op w g ∷ [] } }
     {
-        let answer = self.history.enter(Entry::Op { w, g }, Some(point));
-        self.bodies.follow(program, g, answer);
+        let at = self.history.make(Entry::Op { w, g }, Some(point));
+        self.bodies.follow(program, g, at);
     }
 
     // g comes to its next point, a spawn of f, on w. The body of whoever may be born there is made first.
@@ -92,9 +92,9 @@ impl<R: Run> Simulation<R> {
         // (it has no effect, but tells that the program lies in its limits)
         let _ = program.parts();
         let born = newborn(alloc, program, f, point.labels)?;
-        let answer = self.history.enter(Entry::Op { w, g }, Some(point));
-        self.bodies.follow(program, g, answer);
-        self.bodies.gain(answer, born);
+        let at = self.history.make(Entry::Op { w, g }, Some(point));
+        self.bodies.follow(program, g, at);
+        self.bodies.gain(at, born);
         Ok(())
     }
 

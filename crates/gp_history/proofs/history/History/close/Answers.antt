@@ -6,4 +6,4 @@ use Rattle.gp_history.proofs.history.History.close.Goals as goal
 pub invariant_of-self : goal.invariant_of-self
 invariant_of-self g c =
     let was = subst (λ j. IsHistory g.R.Run.program g.R.Run.settings j c.self.inside.recorder) c.self.view_is c.self.invariant in
-    rw (c.apply.ensures.journal, c.self.view_is, c.end.ensures) (closed g.R.Run.program g.R.Run.settings c.args.self.now c.self.inside.recorder was c.args.epoch c.requires)
+    rw (c.make.ensures.journal, c.self.view_is, c.end.ensures) (closed g.R.Run.program g.R.Run.settings c.args.self.now c.self.inside.recorder was c.args.epoch c.requires)

@@ -16,4 +16,4 @@ begin-requires-clause-left g c =
 pub invariant_of-self : goal.invariant_of-self
 invariant_of-self g c =
     let was = subst (λ j. IsHistory g.R.Run.program g.R.Run.settings j c.self.inside.recorder) c.self.view_is c.self.invariant in
-    rw (c.apply.ensures.journal, c.self.view_is, c.begin.ensures) (opened g.R.Run.program g.R.Run.settings c.args.self.now c.self.inside.recorder was c.args.epoch c.args.room c.requires)
+    rw (c.make.ensures.journal, c.self.view_is, c.begin.ensures) (opened g.R.Run.program g.R.Run.settings c.args.self.now c.self.inside.recorder was c.args.epoch c.args.room c.requires)

@@ -1,7 +1,12 @@
-use Rattle.std.proofs.Common.{ap, subst}
+use Rattle.std.proofs.Common.{◌≡◌, ◌∙◌, refl, ap, subst}
 use Rattle.gp_journal.specs.State.{code_of}
+use Rattle.gp_journal.specs.Run.{last}
+use Rattle.gp_journal.specs.Answer.{op_answer}
+use Rattle.gp_journal.specs.Bodies.{followed}
+use Rattle.gp_machine.specs.AtPoint.{at_point}
+use Rattle.gp_sim.specs.kept.Bodies.{gone_on}
 use Rattle.gp_sim.specs.kept.Simulation.{SoFar, IsSimulation}
-use Rattle.gp_sim.proofs.Stepping.{runner_has_body, at_shared, operated}
+use Rattle.gp_sim.proofs.Stepping.{runner_has_body, at_shared, operated, gone_on_is}
 use Rattle.gp_sim.proofs.simulation.Simulation.operate.Goals as goal
 
 pub follow-requires-clause-born : goal.follow-requires-clause-born
@@ -18,6 +23,9 @@ pub invariant_of-self : goal.invariant_of-self
 invariant_of-self g c =
     let j = ap (λ (s : SoFar). s.journal) c.self.view_is in
     let was = subst (λ (s : SoFar). IsSimulation (code_of g.R.Run.program) g.R.Run.settings s.journal c.self.inside.bodies) c.self.view_is c.self.invariant in
-    let told = rw j at c.enter-answer.ensures.answer in
-    rw (c.enter-answer.ensures.journal, c.follow.ensures, j)
-    (operated g.R.Run.program g.R.Run.settings c.args.self.now.journal c.self.inside.bodies was c.args.w c.args.g c.args.point c.enter-answer.result c.requires.may c.requires.point c.requires.nobody told)
+    let now = last (code_of g.R.Run.program) g.R.Run.settings c.args.self.now.journal in
+    let answer = op_answer (code_of g.R.Run.program) g.R.Run.settings c.args.g now in
+    let told : c.make-at.result ≡ at_point answer = rw j at c.make-at.ensures.at_point in
+    let moved : c.follow.new.self ≡ followed c.args.g answer c.self.inside.bodies = c.follow.ensures ∙ ap (λ at. gone_on c.args.g at c.self.inside.bodies) told ∙ gone_on_is c.args.g answer c.self.inside.bodies in
+    rw (c.make-at.ensures.journal, moved, j)
+    (operated g.R.Run.program g.R.Run.settings c.args.self.now.journal c.self.inside.bodies was c.args.w c.args.g c.args.point answer c.requires.may c.requires.point c.requires.nobody refl)

@@ -1,12 +1,16 @@
-use Rattle.std.proofs.Common.{◌<◌, length, Some, sym, ap, ◌∙◌, subst}
+use Rattle.std.proofs.Common.{◌≡◌, ◌<◌, length, Some, refl, sym, ap, ◌∙◌, subst}
 use Rattle.gp_isa.specs.declared.parts.Parts.{Parts}
 use Rattle.gp_isa.specs.InLimits.{AreInLimits}
 use Rattle.gp_stack.specs.Body.{progress_of}
 use Rattle.gp_journal.specs.State.{code_of}
 use Rattle.gp_journal.specs.Run.{last}
+use Rattle.gp_journal.specs.Answer.{op_answer}
+use Rattle.gp_journal.specs.Bodies.{followed, gained}
+use Rattle.gp_machine.specs.AtPoint.{at_point}
+use Rattle.gp_sim.specs.kept.Bodies.{gone_on, joined}
 use Rattle.gp_journal.proofs.Lemmas.{born_there}
 use Rattle.gp_sim.specs.kept.Simulation.{SoFar, IsSimulation}
-use Rattle.gp_sim.proofs.Stepping.{runner_has_body, at_shared, spawned, cell_left}
+use Rattle.gp_sim.proofs.Stepping.{runner_has_body, at_shared, spawned, cell_left_by, gone_on_is, joined_is}
 use Rattle.gp_sim.proofs.simulation.Simulation.spawn.Goals as goal
 
 pub newborn-requires : goal.newborn-requires
@@ -25,17 +29,25 @@ follow-requires-clause-shared g c =
     at_shared g.R.Run.program g.R.Run.settings c.args.self.now.journal c.self.inside.bodies was c.args.w c.args.g c.requires.may
 
 pub gain-requires-clause-room : goal.gain-requires-clause-room
-gain-requires-clause-room g c = λ h died born.
+gain-requires-clause-room g c = λ bears.
     let j = ap (λ (s : SoFar). s.journal) c.self.view_is in
     let was = subst (λ (s : SoFar). IsSimulation (code_of g.R.Run.program) g.R.Run.settings s.journal c.self.inside.bodies) c.self.view_is c.self.invariant in
-    let told = rw j at c.enter-answer.ensures.answer in
-    rw c.follow.ensures (cell_left g.R.Run.program g.R.Run.settings c.args.self.now.journal c.self.inside.bodies was c.args.g h died c.enter-answer.result told born)
+    let now = last (code_of g.R.Run.program) g.R.Run.settings c.args.self.now.journal in
+    let answer = op_answer (code_of g.R.Run.program) g.R.Run.settings c.args.g now in
+    let told : c.make-at.result ≡ at_point answer = rw j at c.make-at.ensures.at_point in
+    let moved : c.follow.new.self ≡ followed c.args.g answer c.self.inside.bodies = c.follow.ensures ∙ ap (λ at. gone_on c.args.g at c.self.inside.bodies) told ∙ gone_on_is c.args.g answer c.self.inside.bodies in
+    rw moved (cell_left_by g.R.Run.program g.R.Run.settings c.args.self.now.journal c.self.inside.bodies was c.args.g c.make-at.result told bears)
 
 pub invariant_of-self : goal.invariant_of-self
 invariant_of-self g c =
     let j = ap (λ (s : SoFar). s.journal) c.self.view_is in
     let was = subst (λ (s : SoFar). IsSimulation (code_of g.R.Run.program) g.R.Run.settings s.journal c.self.inside.bodies) c.self.view_is c.self.invariant in
-    let told = rw j at c.enter-answer.ensures.answer in
-    rw (c.enter-answer.ensures.journal, c.gain.ensures, c.follow.ensures, j)
-    (spawned g.R.Run.program g.R.Run.settings c.args.self.now.journal c.self.inside.bodies was c.args.w c.args.g c.args.f c.args.point c.enter-answer.result (progress_of c.in_ok-born.born)
-    c.requires.may c.requires.point c.requires.spawn told c.in_ok-born.ensures.progress)
+    let now = last (code_of g.R.Run.program) g.R.Run.settings c.args.self.now.journal in
+    let answer = op_answer (code_of g.R.Run.program) g.R.Run.settings c.args.g now in
+    let told : c.make-at.result ≡ at_point answer = rw j at c.make-at.ensures.at_point in
+    let moved : c.follow.new.self ≡ followed c.args.g answer c.self.inside.bodies = c.follow.ensures ∙ ap (λ at. gone_on c.args.g at c.self.inside.bodies) told ∙ gone_on_is c.args.g answer c.self.inside.bodies in
+    let more : c.gain.new.self ≡ gained answer (progress_of c.in_ok-born.born) c.follow.new.self =
+    c.gain.ensures ∙ ap (λ at. joined at (progress_of c.in_ok-born.born) c.follow.new.self) told ∙ joined_is answer (progress_of c.in_ok-born.born) c.follow.new.self in
+    rw (c.make-at.ensures.journal, more, moved, j)
+    (spawned g.R.Run.program g.R.Run.settings c.args.self.now.journal c.self.inside.bodies was c.args.w c.args.g c.args.f c.args.point answer (progress_of c.in_ok-born.born)
+    c.requires.may c.requires.point c.requires.spawn refl c.in_ok-born.ensures.progress)
