@@ -168,6 +168,12 @@ module _ (parts : Parts) (file : List ℕ) where
       locations
       (functions ∙ sym (insert_key-there same_routine_equiv old.functions.keys site.routine covered.function))
 
+  -- A site was there, so nothing went in.
+  pub enters_there : (all : Tables) (site : Site) → HasNeeds parts file all → list_any (same_site site) all.locations.keys ≡ true
+      → Enters parts file (site_needs parts file site) (site ∷ []) all all
+  enters_there all site has there =
+      enters_again all all site has there refl (sym (insert_key-there same_site_equiv all.locations.keys site there)) refl
+
   -- Nothing went in.
   pub enters_none : (all : Tables) → HasNeeds parts file all → Enters parts file [] [] all all
   enters_none all has = record { strings = refl; locations = refl; functions = refl; has_needs = has }

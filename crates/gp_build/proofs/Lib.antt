@@ -1,5 +1,6 @@
 pub mod FirstSeen
 pub mod Entering
+pub mod Places
 pub mod Tally
 pub mod Order
 pub mod Comparing

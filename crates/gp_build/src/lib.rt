@@ -47,6 +47,7 @@ mod goroutine;
 mod lookup;
 mod messages;
 mod need;
+mod recent;
 mod sample;
 mod samples;
 mod shown;

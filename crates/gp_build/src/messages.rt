@@ -7,6 +7,7 @@ ghost use Rattle.gp_build.specs.Message.{type_of, period_type_of, label_of, samp
 
 use crate::lookup::{self, filename, header_line, name};
 use crate::need::Need;
+use crate::recent::{Recent, is_at};
 use crate::sample::{Kind, StackSample};
 use crate::site::{Routine, Site};
 use crate::tables::place;
@@ -116,12 +117,30 @@ fn function_id(functions: &IndexSet<Routine>, routine: Routine) -> u64
     place(functions, &routine) as u64 + 1
 }
 
-fn location_ids(alloc: Global, locations: &IndexSet<Site>, stack: &[Site]) -> Result<Words, Memory>
+// The same id, mostly without a look-up by hash.
+fn recent_id(locations: &IndexSet<Site>, recent: &mut Recent, site: Site) -> u64
+    ensures { result ≡ numbers.location_id locations.now.keys site }
+{
+    let met = recent.place(site.routine);
+    if is_at(locations, met, site) {
+        return met as u64 + 1;
+    }
+    let found = place(locations, &site);
+    recent.meet(site.routine, found);
+    found as u64 + 1
+}
+
+fn location_ids(
+    alloc: Global,
+    locations: &IndexSet<Site>,
+    recent: &mut Recent,
+    stack: &[Site],
+) -> Result<Words, Memory>
     ensures { IfOk result (λ ids. ids ≡ map (numbers.location_id locations.now.keys) stack.now) }
 {
     let mut ids = room(alloc, stack.len())?;
     for site in stack {
-        ids.push(location_id(locations, *site))?;
+        ids.push(recent_id(locations, recent, *site))?;
     }
     Ok(ids)
 }
@@ -131,12 +150,13 @@ fn sample<'a>(
     parts: &'a Parts,
     strings: &IndexSet<Need<'a>>,
     locations: &IndexSet<Site>,
+    recent: &mut Recent,
     sample: &StackSample,
 ) -> Result<Sample, Memory>
     ensures { IfOk result (λ message. message ≡ sample_of parts.now strings.now.keys locations.now.keys sample.now) }
 {
     Ok(Sample {
-        location_ids: location_ids(alloc, locations, sample.stack.as_slice())?,
+        location_ids: location_ids(alloc, locations, recent, sample.stack.as_slice())?,
         values: Sequence::from_slice(alloc, sample.values.as_slice())?,
         labels: labels(alloc, strings, lookup::labels(parts, sample.set))?,
     })
@@ -151,9 +171,10 @@ pub(crate) fn samples<'a>(
 ) -> Result<Samples, Memory>
     ensures { IfOk result (λ messages. messages ≡ map (sample_of parts.now strings.now.keys locations.now.keys) samples.now) }
 {
+    let mut recent = Recent::new(alloc, parts.functions.len())?;
     let mut messages = room(alloc, samples.len())?;
     for item in samples {
-        messages.push(sample(alloc, parts, strings, locations, item)?)?;
+        messages.push(sample(alloc, parts, strings, locations, &mut recent, item)?)?;
     }
     Ok(messages)
 }

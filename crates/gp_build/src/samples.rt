@@ -29,8 +29,8 @@ fn count<'a>(counts: &mut IndexMap<Shown<'a>, u64>, shown: Shown<'a>) -> Result<
     ensures { let before = unwrap_or (get same_shown counts.old shown.entry) 0 in
         OnOk result (counts.new.entries ≡ insert_entry same_shown counts.old.entries shown.entry (before + 1)) }
 {
-    let before = counts.get(&shown).copied().unwrap_or(0);
-    counts.insert(shown, before + 1)?;
+    let count = counts.entry(shown)?.or_insert(0);
+    *count += 1;
     Ok(())
 }
 

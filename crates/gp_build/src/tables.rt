@@ -10,6 +10,7 @@ ghost use Rattle.gp_build.specs.kept.Tables.{with_needs, HasNeeds, Enters};
 
 use crate::lookup::{filename, labels, name};
 use crate::need::Need;
+use crate::recent::{Recent, is_at};
 use crate::sample::{Header, Kind, StackSample};
 use crate::site::{Routine, Site};
 use gp_isa::{Memory, Pair, Parts};
@@ -25,12 +26,12 @@ pub(crate) struct Tables<'a> {
     pub functions: IndexSet<Routine>,
 }
 
-// A key goes to the end of a table, where it isn't there yet. The answer is whether it was new.
-fn enter<K: Eq + Hash + Drop>(table: &mut IndexSet<K>, key: K) -> Result<bool, Memory>
+// A key goes to the end of a table, where it isn't there yet. The answer is its place, and whether it was new.
+fn enter<K: Eq + Hash + Drop>(table: &mut IndexSet<K>, key: K) -> Result<(usize, bool), Memory>
     ensures keys { OnOk result (table.new.keys ≡ insert_key K.eq table.old.keys key) }
-    ensures new { IfOk result (λ new. new ≡ not (list_any (K.eq key) table.old.keys)) }
+    ensures new { IfOk result (λ r. r.1 ≡ not (list_any (K.eq key) table.old.keys)) }
 {
-    Ok(table.insert(key)?)
+    Ok(table.insert_full(key)?)
 }
 
 // The name and the unit of a kind.
@@ -78,6 +79,7 @@ fn first_strings<'a>(alloc: Global, header: &'a Header) -> Result<IndexSet<Need<
 // A site, and where it is new its function with its name and its file. Those of a site that was there are there too.
 fn need_site<'a>(
     all: &mut Tables<'a>,
+    recent: &mut Recent,
     parts: &'a Parts,
     file: &'a str,
     site: Site,
@@ -85,7 +87,12 @@ fn need_site<'a>(
     requires { HasNeeds parts.now file.now all.old }
     ensures { OnOk result (Enters parts.now file.now (site_needs parts.now file.now site) (site ∷ []) all.old all.new) }
 {
-    if enter(&mut all.locations, site)? {
+    if is_at(&all.locations, recent.place(site.routine), site) {
+        return Ok(());
+    }
+    let (place, new) = enter(&mut all.locations, site)?;
+    recent.meet(site.routine, place);
+    if new {
         enter(&mut all.functions, site.routine)?;
         enter(&mut all.strings, Need::text(name(parts, site.routine)))?;
         enter(&mut all.strings, Need::text(filename(file, site.routine)))?;
@@ -95,6 +102,7 @@ fn need_site<'a>(
 
 fn need_stack<'a>(
     all: &mut Tables<'a>,
+    recent: &mut Recent,
     parts: &'a Parts,
     file: &'a str,
     stack: &[Site],
@@ -103,7 +111,7 @@ fn need_stack<'a>(
     ensures { OnOk result (Enters parts.now file.now (flat_map (site_needs parts.now file.now) stack.now) stack.now all.old all.new) }
 {
     for site in stack {
-        need_site(all, parts, file, *site)?;
+        need_site(all, recent, parts, file, *site)?;
     }
     Ok(())
 }
@@ -121,6 +129,7 @@ fn need_labels<'a>(strings: &mut IndexSet<Need<'a>>, labels: &'a [Pair]) -> Resu
 
 fn need_sample<'a>(
     all: &mut Tables<'a>,
+    recent: &mut Recent,
     parts: &'a Parts,
     file: &'a str,
     sample: &StackSample,
@@ -129,13 +138,14 @@ fn need_sample<'a>(
     ensures { let needs = sample_needs parts.now file.now sample.now in
         OnOk result (Enters parts.now file.now needs sample.now.stack all.old all.new) }
 {
-    need_stack(all, parts, file, sample.stack.as_slice())?;
+    need_stack(all, recent, parts, file, sample.stack.as_slice())?;
     need_labels(&mut all.strings, labels(parts, sample.set))?;
     Ok(())
 }
 
 fn need_samples<'a>(
     all: &mut Tables<'a>,
+    recent: &mut Recent,
     parts: &'a Parts,
     file: &'a str,
     samples: &[StackSample],
@@ -145,7 +155,7 @@ fn need_samples<'a>(
         OnOk result (Enters parts.now file.now needs (all_sites samples.now) all.old all.new) }
 {
     for sample in samples {
-        need_sample(all, parts, file, sample)?;
+        need_sample(all, recent, parts, file, sample)?;
     }
     Ok(())
 }
@@ -168,7 +178,8 @@ impl<'a> Tables<'a> {
             locations: IndexSet::new(alloc),
             functions: IndexSet::new(alloc),
         };
-        need_samples(&mut all, parts, file, samples)?;
+        let mut recent = Recent::new(alloc, parts.functions.len())?;
+        need_samples(&mut all, &mut recent, parts, file, samples)?;
         Ok(all)
     }
 }
