@@ -1,7 +1,7 @@
 use Rattle.std.proofs.Common.{ℕ, List, [], ◌∷◌, length, IfOk, IfSome, Result, Ok, Err, ap, ◌∙◌}
 use Rattle.std.specs.Result.{result_ok}
 use Rattle.gp_sync.specs.WaitState.{WaitState, empty_lists}
-use Rattle.gp_program_tests.proofs.wait_lists.lists.Goals as goal
+use Rattle.gp_program_tests.proofs.waits.lists.Goals as goal
 
 -- what is known of an Ok's value is known of it without the error
 ok_then : {X Y : Type 0} (r : Result X Y) (P Q : X → Type 0) → ((x : X) → P x → Q x) → IfOk r P → IfSome (result_ok r) Q

@@ -1,14 +1,15 @@
-//! Operations on the channels and mutexes of a program, one after another.
+//! Operations on the channels and mutexes of a program, one after another. They stand in code and not in rows, since who
+//! operates must wait nowhere, which is proved of these.
 ghost use Rattle.std.specs.Prelude.{◌≡◌, [], ◌∷◌, length, map, IfOk, IfSome};
 ghost use Rattle.gp_sync.specs.WaitState.{empty_lists};
 
+use gp_cases::{Page, Unanswered};
 use gp_isa::{
     ChannelDecl, Channels, Function, Functions, LabelSets, Memory, MutexDecl, Mutexes, Parts,
     Program, Stmt, Stmts, Text, What, check,
 };
 use gp_sync::{Effect, WaitLists, Waiter};
 use std::alloc::Global;
-use std::test::Fail;
 
 fn main(alloc: Global) -> Result<Functions, Memory> {
     let mut body = Stmts::new(alloc);
@@ -80,10 +81,6 @@ fn lists(alloc: Global) -> Option<WaitLists>
     WaitLists::new(alloc, &program, 8).ok()
 }
 
-const DONE: Effect = Effect::Done;
-
-const BLOCKS: Effect = Effect::Blocks;
-
 #[tactic(auto, unfolding(gp_sync::specs::Places::places_of))]
 fn full_buffer(alloc: Global) -> Option<[Effect; 3]> {
     let mut lists = lists(alloc)?;
@@ -106,15 +103,8 @@ fn no_buffer(alloc: Global) -> Option<[Effect; 2]> {
     Some([lists.send(1, 0, 20), lists.recv(1, 3, 22)])
 }
 
-#[test]
-fn a_channel_has_a_buffer_and_two_lines(rt: HostRuntime) {
-    let full = [DONE, BLOCKS, Effect::Wakes { g: 2, since: 11 }];
-    assert_eq!(rt; full_buffer(rt.alloc()), Some(full));
-    assert_eq!(rt; some_room(rt.alloc()), Some([DONE, DONE]));
-    let woken = Effect::Wakes { g: 0, since: 20 };
-    assert_eq!(rt; no_buffer(rt.alloc()), Some([BLOCKS, woken]));
-}
-
+// What a mutex answers to two locks by one goroutine, one by another, and two unlocks; who waits first for it
+// between them; and whether it is held at the end.
 #[tactic(auto, unfolding(gp_sync::specs::Places::places_of))]
 fn mutex_effects(alloc: Global) -> Option<([Effect; 5], [Option<Waiter>; 4], bool)> {
     let mut lists = lists(alloc)?;
@@ -135,11 +125,17 @@ fn mutex_effects(alloc: Global) -> Option<([Effect; 5], [Option<Waiter>; 4], boo
     ))
 }
 
-#[test]
-fn a_mutex_is_handed_over_to_who_waits_first(rt: HostRuntime) {
-    let first = Waiter { g: 4, since: 14 };
-    let next = Waiter { g: 6, since: 15 };
-    let effects = [DONE, BLOCKS, BLOCKS, first.woken(), next.woken()];
-    let waiters = [None, Some(first), Some(next), None];
-    assert_eq!(rt; mutex_effects(rt.alloc()), Some((effects, waiters, true)));
+/// What each operation does, and who waits.
+pub fn effects(alloc: Global, page: &mut Page) -> Result<(), Unanswered> {
+    let full = full_buffer(alloc).ok_or(Unanswered::Memory)?;
+    page.debug("\n", &full.as_slice())?;
+    let room = some_room(alloc).ok_or(Unanswered::Memory)?;
+    page.debug("\n", &room.as_slice())?;
+    let none = no_buffer(alloc).ok_or(Unanswered::Memory)?;
+    page.debug("\n", &none.as_slice())?;
+    let (effects, waiters, held) = mutex_effects(alloc).ok_or(Unanswered::Memory)?;
+    page.debug("\n", &effects.as_slice())?;
+    page.debug("\n", &waiters.as_slice())?;
+    page.debug("\n", &held)?;
+    Ok(())
 }
