@@ -27,7 +27,8 @@ pub look_at-returns-then-h-len : goal.look_at-returns-then-h-len
 look_at-returns-then-h-len t c = at_no_function c.args.program.now c.args.calls c.args.loops c.args.statements.now c.args.at c.args.limit c.in-Call.h c.in-Call.ensures.ahead (rw (← c.parts.ensures.parts, ← c.len.ensures) c.if-h-len.true)
 
 pub look_at-returns-in-Some : goal.look_at-returns-in-Some
-look_at-returns-in-Some t c = at_local_call c.args.program.now c.args.calls c.args.loops c.args.statements.now c.args.at c.args.limit c.in-Call.h c.in-Some.n c.look_local-in-Some.result c.in-Call.ensures.ahead c.in-Some.ensures c.look_local-in-Some.ensures.finds
+look_at-returns-in-Some t c = at_local_call c.args.program.now c.args.calls c.args.loops c.args.statements.now c.args.at c.args.limit c.in-Call.h c.in-Some.n c.look_local-in-Some.result
+    c.in-Call.ensures.ahead c.in-Some.ensures c.look_local-in-Some.ensures.finds
 
 pub look_at-returns-in_default : goal.look_at-returns-in_default
 look_at-returns-in_default t c = at_call c.args.program.now c.args.calls c.args.loops c.args.statements.now c.args.at c.args.limit c.in-Call.h c.function_body-called.result.now c.look_on.result c.in-Call.ensures.ahead (omega arith)

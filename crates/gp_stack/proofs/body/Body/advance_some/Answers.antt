@@ -47,11 +47,13 @@ pub returns-else-n-left-clause-stands : goal.returns-else-n-left-clause-stands
 returns-else-n-left-clause-stands c =
     let w : c.args.self.now.count + c.args.n ≤ length (trace c.args.program.now c.args.self.now.start) = within_ahead (trace c.args.program.now c.args.self.now.start) c.args.self.now.count c.args.n c.requires.stands.within c.requires.ahead in
     let part : c.args.self.now.passed < c.in-Work.of = c.requires.stands.part _ c.in-Work.ensures.ahead in
-    stands_work c.args.program.now c.args.self.now c.pass-behind.new.self c.in-Work.of (c.in-Work.of - c.args.self.now.passed) c.pass-behind.result c.in-Work.ensures.ahead c.requires.stands c.pass-behind.ensures.place c.pass-behind.ensures.passes c.pass-behind.ensures.settled (omega arith)
+    stands_work c.args.program.now c.args.self.now c.pass-behind.new.self c.in-Work.of (c.in-Work.of - c.args.self.now.passed) c.pass-behind.result
+    c.in-Work.ensures.ahead c.requires.stands c.pass-behind.ensures.place c.pass-behind.ensures.passes c.pass-behind.ensures.settled (omega arith)
     (omega (arith, c.pass-behind.ensures.few))
 
 pub returns-in-Labels-clause-stands : goal.returns-in-Labels-clause-stands
 returns-in-Labels-clause-stands c =
     let w : c.args.self.now.count + c.args.n ≤ length (trace c.args.program.now c.args.self.now.start) = within_ahead (trace c.args.program.now c.args.self.now.start) c.args.self.now.count c.args.n c.requires.stands.within c.requires.ahead in
-    stands_labels c.args.program.now c.args.self.now c.pass-behind-in-Labels.new.self c.in-Labels.set c.pass-behind-in-Labels.result c.in-Labels.ensures.ahead c.requires.stands c.pass-behind-in-Labels.ensures.place c.pass-behind-in-Labels.ensures.passes c.pass-behind-in-Labels.ensures.settled
+    stands_labels c.args.program.now c.args.self.now c.pass-behind-in-Labels.new.self c.in-Labels.set c.pass-behind-in-Labels.result
+    c.in-Labels.ensures.ahead c.requires.stands c.pass-behind-in-Labels.ensures.place c.pass-behind-in-Labels.ensures.passes c.pass-behind-in-Labels.ensures.settled
     (omega (arith, c.pass-behind-in-Labels.ensures.few))

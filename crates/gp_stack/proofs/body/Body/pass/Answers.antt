@@ -30,5 +30,6 @@ unreachable-requires-in-Call c =
 
 pub returns-clause-stands : goal.returns-clause-stands
 returns-clause-stands c =
-    stands_shared c.args.program.now c.args.self.now c.pass.new.self c.in-Shared.field-0 c.in-Shared.ensures.ahead c.requires.stands c.pass.ensures.place (none_passed c.args.program.now (stepped (levels c.args.self.now.place)) (levels c.pass.new.self) c.pass.result c.pass.ensures.passes c.pass.ensures.few) c.pass.ensures.settled
+    stands_shared c.args.program.now c.args.self.now c.pass.new.self c.in-Shared.field-0 c.in-Shared.ensures.ahead c.requires.stands c.pass.ensures.place
+    (none_passed c.args.program.now (stepped (levels c.args.self.now.place)) (levels c.pass.new.self) c.pass.result c.pass.ensures.passes c.pass.ensures.few) c.pass.ensures.settled
     (within_shared (trace c.args.program.now c.args.self.now.start) c.args.self.now.count c.requires.shared)
