@@ -6,10 +6,11 @@ use Rattle.std.proofs.lemmas.List.{get_or_past}
 use Rattle.std.proofs.lemmas.List.Elements.{All-nil, All-cons, All-head, All-tail, All-take}
 use Rattle.gp_isa.specs.declared.parts.Parts.{Parts}
 use Rattle.gp_isa.specs.InLimits.{AreInLimits}
+use Rattle.gp_isa.specs.Limits.{goroutine_frames}
 use Rattle.gp_isa.specs.Names.{IsThere as Names, AreThere}
 use Rattle.gp_isa.specs.Trace.{Instruction, Local, Labels, Send, Recv, Lock, Unlock, Spawn, Point, trace}
 use Rattle.gp_isa.proofs.NamedThere.{traces_name_what_is_there}
-use Rattle.gp_stack.specs.Goroutine.{no_point, next_point, stack_of, set_after, set_after_all, labels_of, frame_limit}
+use Rattle.gp_stack.specs.Goroutine.{no_point, next_point, stack_of, set_after, set_after_all, labels_of}
 use Rattle.gp_journal.specs.declared.entry.Entry.{Entry}
 use Rattle.gp_journal.specs.declared.entry.Entry.TheVariants.{Start, Run, Op, Tick, Park, Open, Refuse, Record, Close}
 use Rattle.gp_journal.specs.declared.goroutine.Goroutine.{Goroutine}
@@ -106,7 +107,7 @@ module _ (parts : Parts) (limits : AreInLimits parts) where
     -- the row of a goroutine
     row_there : (g : ℕ) (x : Goroutine) → Inherits x → IsRecordOf parts (row code g x)
     row_there g x inherits = (
-      All-take (IsThere parts) frame_limit (stack_of (trace parts x.start) x.count)
+      All-take (IsThere parts) goroutine_frames (stack_of (trace parts x.start) x.count)
           (stack_there parts (trace parts x.start) x.count (trace_framed parts x.start) (cases_lt x.count (length (trace parts x.start)))),
       labels_there x inherits,
     )

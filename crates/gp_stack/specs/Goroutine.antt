@@ -2,7 +2,6 @@
 use Rattle.std.specs.Prelude.{◌≡◌, refl, ℕ, Bool, List, [], ◌∷◌, length, get_or, take, drop, nat_le}
 use Rattle.std.specs.List.{prefix_len}
 use Rattle.gp_isa.specs.declared.frame.Frame.{Frame}
-use Rattle.gp_isa.specs.Limits.{goroutine_frames}
 use Rattle.gp_isa.specs.Trace.{Instruction, Local, Labels, Send, Point, is_local}
 
 -- what stands for a point past the end of a trace
@@ -38,10 +37,6 @@ labels_of points inherited count = set_after_all inherited (take count points)
 -- how many local points a goroutine has ahead, up to the next shared one or the end of its trace
 unfoldable pub local_ahead : List Point → ℕ → ℕ
 local_ahead points count = prefix_len (λ point. is_local point.instruction) (drop count points)
-
--- how many frames of a goroutine's stack a profile keeps
-abbrev pub frame_limit : ℕ
-frame_limit = goroutine_frames
 
 -- An example: after `labels 2` on line 4 a goroutine stands at line 5 with set 2, and two local points are ahead of
 -- the send there.
