@@ -172,7 +172,9 @@ impl Workers {
         requires within { w < length self.old.all }
         requires instructions { (get_or self.old.all w resting).instructions + n < 2 ^ 64 }
         requires slice { (get_or self.old.all w resting).slice + n < 2 ^ 64 }
-        ensures { self.new ≡ record self.old { all = set self.old.all w (worked_by self.old.period n died (get_or self.old.all w resting)) } }
+        ensures { self.new ≡ record self.old {
+          all = set self.old.all w (worked_by self.old.period n died (get_or self.old.all w resting));
+        } }
     {
         let worker = &mut self.all[w as usize];
         let was = worker.runs.is_some();

@@ -180,7 +180,8 @@ pub(crate) fn next_step<R: Run>(
     ensures none { IfNone result (
         chosen R.settings numbers.now (actions (code_of R.program) R.settings (state_of R.program R.settings machine.now)) ≡ None) }
     ensures turn { IfSome result (λ step.
-        chosen R.settings numbers.now (actions (code_of R.program) R.settings (state_of R.program R.settings machine.now)) ≡ Some step.turn) }
+        chosen R.settings numbers.now (actions (code_of R.program) R.settings (state_of R.program R.settings machine.now))
+        ≡ Some step.turn) }
     ensures point { IfSome result (λ step.
         IsGiven (code_of R.program) (state_of R.program R.settings machine.now) step.turn.entry step.point) }
     ensures more { IfSome result (λ step. numbers.now ≤ step.turn.taken) }
