@@ -25,7 +25,8 @@
 //! **Any profile.** One walk over the samples, site by site from the leaf, numbers what it meets in the order of first
 //! need: texts, from 0, the empty one first; locations, one for each site, and functions, from 1 (`tables`, over the
 //! keys of `need` and `site`). A site is a line of a function, and that function one of the program or the one that
-//! stands for lost events. All messages name texts, locations and functions by their numbers (`messages`).
+//! stands for lost events. All messages name texts, locations and functions by their numbers (`messages`). A site that
+//! was there needs nothing more, and most are found where their function was met last, without a hash (`recent`).
 //!
 //! **Goroutines.** Records are counted: those that show one stack with equal labels make one sample, whose value is
 //! their number (`samples`, over the keys of `shown`). The samples are put in order, falling value, then stack, then
