@@ -25,4 +25,3 @@ pub mod Queue
 pub mod OnWorker
 pub mod AtPoint
 pub mod kept
-pub use Rattle.gp_machine.specs.kept.Made

@@ -11,7 +11,7 @@ use Rattle.gp_machine.specs.State.{Code, State, first, resting}
 use Rattle.gp_machine.specs.Effect.{after}
 use Rattle.gp_machine.specs.Run.{IsLegal, last}
 use Rattle.gp_machine.specs.Frozen.{rows_taken}
-use Rattle.gp_machine.specs.Made.{made_by}
+use Rattle.gp_journal.specs.Actors.{made_by}
 use Rattle.gp_journal.proofs.Lemmas.{kept_at}
 use Rattle.gp_journal.specs.Profiles.{records_from, records_of}
 use Rattle.gp_top.specs.Report.{ids_taken, recorded_ids, ids, refusals, AreMade}

@@ -8,7 +8,7 @@ use Rattle.gp_journal.specs.declared.goroutine.Worker.{Worker}
 use Rattle.gp_journal.specs.declared.settings.Settings.{Settings}
 use Rattle.gp_journal.specs.State.{code_of, births, live}
 use Rattle.gp_journal.specs.Due.{ended}
-use Rattle.gp_machine.specs.Made.{made_by}
+use Rattle.gp_journal.specs.Actors.{made_by}
 use Rattle.gp_journal.specs.Run.{state_of, IsFinished}
 use Rattle.gp_sim.specs.Choice.{sim_journal}
 use Rattle.gp_journal.specs.Profiles.{AreFrozen}

@@ -4,7 +4,7 @@ use Rattle.gp_journal.specs.declared.entry.Entry.{Entry}
 use Rattle.gp_journal.specs.declared.settings.Settings.{Settings}
 use Rattle.gp_journal.specs.Settings.{AreInRange}
 use Rattle.gp_journal.specs.State.{Code, State}
-pub use Rattle.gp_journal.specs.Actors.{made_by}
+use Rattle.gp_journal.specs.Actors.{made_by}
 use Rattle.gp_journal.specs.Run.{IsLegal, last}
 use Rattle.gp_journal.specs.NumberLaws.{most_entries}
 

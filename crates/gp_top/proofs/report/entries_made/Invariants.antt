@@ -1,6 +1,6 @@
 -- Each actor so far has its number of entries.
 use Rattle.std.proofs.Common.{◌≡◌, ◌≤◌, ◌<◌, ◌+◌, ℕ, length, get_or}
-use Rattle.gp_machine.specs.Made.{made_by}
+use Rattle.gp_journal.specs.Actors.{made_by}
 use Rattle.gp_top.proofs.report.entries_made.Given as goal
 
 abbrev pub invariant-loop-actor : goal.invariant-loop-actor
