@@ -1,0 +1,42 @@
+//! Cases of the outside, of command words, of the machine and of whole runs. They stand in the files of `data/`, each with
+//! what has to come of it, which was worked out by hand from the rules of the machine; the words of the generator, and the
+//! bytes of profiles, come from other programs.
+//!
+//! What the real source, store and output do is printed behind the cases.
+#![tactic(auto)]
+
+mod memory;
+mod real;
+mod runs;
+mod tops;
+mod words;
+
+use gp_cases::{Page, Teller, Unanswered, walk, word};
+use std::alloc::Global;
+
+/// Answers cases of the outside in memory, of words and of runs.
+struct OfRuns;
+
+impl Teller for OfRuns {
+    fn tell(alloc: Global, page: &mut Page, rows: &[&str]) -> Result<(), Unanswered> {
+        let (head, rows) = rows.split_first().ok_or(Unanswered::Form)?;
+        let (kind, rest) = word(head);
+        match kind {
+            "words" => words::words(alloc, page, rows),
+            "queue" => runs::queue(alloc, page),
+            "run" => runs::run(alloc, page, rest, rows),
+            "reads" => memory::reads(alloc, page, rows),
+            "puts" => memory::puts(alloc, page, rows),
+            "writes" => memory::writes(alloc, page, rows),
+            _ => tops::top(alloc, page, rest, rows),
+        }
+    }
+}
+
+fn main(rt: HostRuntime) -> Result<(), Unanswered> {
+    walk::<OfRuns>(&rt, "outside.txt")?;
+    walk::<OfRuns>(&rt, "words.txt")?;
+    walk::<OfRuns>(&rt, "runs.txt")?;
+    walk::<OfRuns>(&rt, "tops.txt")?;
+    real::outside(&rt)
+}

@@ -1,0 +1,212 @@
+//! Runs in an order that numbers choose: their journals, what the machine tells at the end, and the records of profiles.
+ghost use Rattle.std.specs.Prelude.{◌≡◌, ◌≤◌, ◌%◌, IfOk};
+ghost use Rattle.gp_isa.specs.Limits.{instructions_per_second};
+ghost use Rattle.gp_journal.specs.Settings.{AreInRange};
+
+use crate::words::words_of;
+use gp_cases::{Page, Unanswered, word};
+use gp_isa::{Frame, Program};
+use gp_machine::{Entry, Machine, Queue, Run, Settings};
+use gp_sim::{Simulated, simulate};
+use gp_stack::{Profiles, Record, Records};
+use gp_text::read;
+use gp_words::{Job, job};
+use std::alloc::{AllocError, Global};
+use std::marker::Brand;
+
+fn program_of(alloc: Global, text: &str) -> Result<Program, Unanswered> {
+    let file = text.replace(alloc, ';', "\n")?;
+    if file.len() > 65536 {
+        return Err(Unanswered::Form);
+    }
+    read(alloc, file.as_bytes()).ok().ok_or(Unanswered::Form)
+}
+
+fn settings_of(alloc: Global, line: &str) -> Result<Settings, Unanswered>
+    ensures { IfOk result AreInRange }
+{
+    let words = words_of(alloc, line)?;
+    match job(alloc, words.as_slice()) {
+        Ok(Job::Sim { settings, .. }) => Ok(settings),
+        Err(_) => Err(Unanswered::Form),
+    }
+}
+
+fn sampled(settings: Settings, hz: u32) -> Settings
+    requires range { AreInRange settings }
+    requires some { 1 ≤ hz }
+    requires even { instructions_per_second % hz ≡ 0 }
+    ensures { AreInRange result }
+{
+    Settings { hz, ..settings }
+}
+
+// An entry's name and its numbers.
+fn parts_of(entry: &Entry) -> (&str, u64, u64) {
+    match *entry {
+        Entry::Start { w, g } => ("Start ", u64::from(w), u64::from(g)),
+        Entry::Run { w, g, .. } => ("Run ", u64::from(w), u64::from(g)),
+        Entry::Op { w, g } => ("Op ", u64::from(w), u64::from(g)),
+        Entry::Tick { w, g } => ("Tick ", u64::from(w), u64::from(g)),
+        Entry::Park { w, g } => ("Park ", u64::from(w), u64::from(g)),
+        Entry::Open { epoch, room } => ("Open ", u64::from(epoch), u64::from(room)),
+        Entry::Refuse { room, n } => ("Refuse ", u64::from(room), u64::from(n)),
+        Entry::Record { actor, g } => ("Record ", u64::from(actor), u64::from(g)),
+        Entry::Close { epoch } => ("Close ", u64::from(epoch), 0),
+    }
+}
+
+fn tell_entry(page: &mut Page, entry: &Entry) -> Result<(), AllocError> {
+    let (name, first, second) = parts_of(entry);
+    page.number(name, first)?;
+    match *entry {
+        Entry::Close { .. } => Ok(()),
+        Entry::Run { n, .. } => {
+            page.number(" ", second)?;
+            page.number(" ", u64::from(n))
+        }
+        _ => page.number(" ", second),
+    }
+}
+
+/// Tells a journal in a line.
+pub fn tell_journal(page: &mut Page, journal: &[Entry]) -> Result<(), AllocError> {
+    for (at, entry) in journal.iter().enumerate() {
+        page.text(if at == 0 { "\n" } else { ", " })?;
+        tell_entry(page, entry)?;
+    }
+    Ok(())
+}
+
+/// Tells frames, the leaf first, as function and line, each behind a mark.
+pub fn tell_frames(page: &mut Page, mark: &str, frames: &[Frame]) -> Result<(), AllocError> {
+    for frame in frames {
+        page.number(mark, u64::from(frame.function))?;
+        page.number(":", u64::from(frame.line))?;
+    }
+    Ok(())
+}
+
+fn tell_record(page: &mut Page, record: &Record) -> Result<(), AllocError> {
+    page.number(" ", u64::from(record.g))?;
+    page.text(" at")?;
+    tell_frames(page, " ", record.stack.as_slice())?;
+    page.number(" with ", u64::from(record.set))
+}
+
+fn tell_profile(page: &mut Page, records: &Records) -> Result<(), AllocError> {
+    page.text("profile:")?;
+    for (at, record) in records.iter().enumerate() {
+        if at > 0 {
+            page.text(",")?;
+        }
+        tell_record(page, record)?;
+    }
+    Ok(())
+}
+
+fn tell_profiles(page: &mut Page, profiles: &Profiles) -> Result<(), AllocError> {
+    page.line("")?;
+    for (at, records) in profiles.iter().enumerate() {
+        if at > 0 {
+            page.text("; ")?;
+        }
+        tell_profile(page, records)?;
+    }
+    Ok(())
+}
+
+// What a machine tells of its run, with as many workers.
+fn tell_end<R: Run>(page: &mut Page, machine: &Machine<R>, workers: u32) -> Result<(), AllocError>
+    requires { workers ≡ R.settings.workers }
+{
+    page.line("")?;
+    if machine.complete() {
+        page.debug("", &machine.ended())?;
+        page.text("; ")?;
+    }
+    page.number("clock ", machine.clock())?;
+    page.number("; ", u64::from(machine.births()))?;
+    page.number(" born, ", u64::from(machine.live()))?;
+    page.number(" live, ", u64::from(machine.running()))?;
+    page.number(" running; epochs ", u64::from(machine.active()))?;
+    page.number(" ", u64::from(machine.last_epoch()))?;
+    page.text("; done")?;
+    for w in 0..workers {
+        page.number(" ", machine.done(w))?;
+    }
+    page.text("; made")?;
+    for actor in 0..=workers {
+        page.number(" ", u64::from(machine.made(actor)))?;
+    }
+    Ok(())
+}
+
+fn tell_run<R: Run>(
+    page: &mut Page,
+    ran: &Simulated<R>,
+    workers: u32,
+    rows: &[&str],
+) -> Result<(), AllocError>
+    requires { workers ≡ R.settings.workers }
+{
+    for row in rows {
+        match *row {
+            "journal" => tell_journal(page, ran.machine.journal())?,
+            "records" => tell_profiles(page, &ran.records)?,
+            _ => tell_end(page, &ran.machine, workers)?,
+        }
+    }
+    Ok(())
+}
+
+fn run_and_tell<R: Run>(
+    alloc: Global,
+    page: &mut Page,
+    program: &Program,
+    settings: &Settings,
+    rows: &[&str],
+) -> Result<(), Unanswered>
+    requires program { program.now ≡ R.program }
+    requires settings { settings.now ≡ R.settings }
+    requires range { AreInRange settings.now }
+{
+    let ran = simulate::<R>(alloc, program, settings)?;
+    tell_run(page, &ran, settings.workers, rows)?;
+    Ok(())
+}
+
+/// What comes of a run, told as each row asks: `SAMPLES LINE`, the CPU samples in a second and the command line, and the
+/// program's file as the first row.
+pub fn run(alloc: Global, page: &mut Page, head: &str, rows: &[&str]) -> Result<(), Unanswered> {
+    let (hz, line) = word(head);
+    let hz: u32 = hz.parse()?;
+    let (text, rows) = rows.split_first().ok_or(Unanswered::Form)?;
+    let program = program_of(alloc, text)?;
+    let read = settings_of(alloc, line)?;
+    if hz == 0 || 1_000_000 % hz != 0 {
+        return Err(Unanswered::Form);
+    }
+    let settings = sampled(read, hz);
+    run_and_tell::<Brand>(alloc, page, &program, &settings, rows)
+}
+
+fn tell_queue(page: &mut Page, queue: &Queue) -> Result<(), AllocError> {
+    page.debug("\n", &queue.head())?;
+    page.number(" of ", u64::from(queue.len()))
+}
+
+/// One leaves a queue from the middle and comes back at the head.
+pub fn queue(alloc: Global, page: &mut Page) -> Result<(), Unanswered> {
+    let mut queue = Queue::new(alloc, 16384)?;
+    queue.push_back(5);
+    queue.push_back(0);
+    queue.push_back(16383);
+    queue.remove(0);
+    tell_queue(page, &queue)?;
+    queue.remove(5);
+    tell_queue(page, &queue)?;
+    queue.push_front(5);
+    tell_queue(page, &queue)?;
+    Ok(())
+}

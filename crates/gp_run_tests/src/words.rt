@@ -1,0 +1,69 @@
+//! Command words: the settings that they give, or the place and the cause of the first fault.
+use gp_cases::{Page, Unanswered};
+use gp_machine::{Request, Settings};
+use gp_words::{Job, WordError, job};
+use std::alloc::{AllocError, Global};
+
+/// The words of a line, behind the program's name.
+pub fn words_of(alloc: Global, line: &str) -> Result<Vec<String>, Unanswered> {
+    let mut words = Vec::new(alloc);
+    for word in line.split_whitespace().skip(1) {
+        words.push(word.to_string(alloc)?)?;
+    }
+    Ok(words)
+}
+
+// The lists: the instants, and the numbers of picks.
+fn tell_lists(page: &mut Page, settings: &Settings) -> Result<(), AllocError> {
+    page.text(" at")?;
+    for request in settings.at.iter() {
+        match *request {
+            Request::Clock { clock } => page.number(" ", clock)?,
+            Request::End => page.text(" end")?,
+        }
+    }
+    page.text(", picks")?;
+    for pick in settings.picks.iter() {
+        page.number(" ", u64::from(*pick))?;
+    }
+    Ok(())
+}
+
+// Workers, room, cells, entries, seed and the lists; and those that no option sets.
+fn tell_settings(page: &mut Page, settings: &Settings) -> Result<(), AllocError> {
+    page.number(" ", u64::from(settings.workers))?;
+    page.number(" ", u64::from(settings.room))?;
+    page.number(" ", u64::from(settings.cells))?;
+    page.number(" ", u64::from(settings.entries))?;
+    page.number(" ", settings.seed)?;
+    tell_lists(page, settings)?;
+    page.number("; ", u64::from(settings.hz))?;
+    page.number(" ", u64::from(settings.block))?;
+    page.number(" ", u64::from(settings.mutex))?;
+    page.number(" ", u64::from(settings.ring))?;
+    page.number(" ", u64::from(settings.tags))
+}
+
+fn tell(page: &mut Page, said: Result<Job, WordError>) -> Result<(), Unanswered> {
+    match said {
+        Ok(Job::Sim { file, settings }) => {
+            page.line(file.as_str())?;
+            tell_settings(page, &settings)?;
+        }
+        Err(WordError::Usage { place, cause }) => {
+            page.number("\nfault ", u64::from(cause))?;
+            page.number(" at ", u64::from(place))?;
+        }
+        Err(WordError::Memory) => return Err(Unanswered::Memory),
+    }
+    Ok(())
+}
+
+/// What the words of each row say.
+pub fn words(alloc: Global, page: &mut Page, rows: &[&str]) -> Result<(), Unanswered> {
+    for row in rows {
+        let words = words_of(alloc, row)?;
+        tell(page, job(alloc, words.as_slice()))?;
+    }
+    Ok(())
+}
