@@ -9,8 +9,8 @@ use crate::words::{tags_of, words_of};
 /// Whether there is room for a record of `need` words, in a ring of `len` data words and so many tags.
 pub fn room_one(r: u64, w: u64, len: u32, tags: u32, need: u32) -> bool
     requires some { 0 < len }
-    requires len { len ≤ 2 ^ 28 }
-    requires tags { tags ≤ 2 ^ 28 }
+    requires len { len ≤ 2 ^ 29 }
+    requires tags { tags ≤ 2 ^ 29 }
     requires need { need ≤ len }
     requires words_before { bits.words_of r ≤ bits.words_of w }
     requires words_within { bits.words_of w ≤ bits.words_of r + len }
@@ -28,8 +28,8 @@ pub fn room_one(r: u64, w: u64, len: u32, tags: u32, need: u32) -> bool
 /// of `need` words.
 pub fn room_two(r: u64, w: u64, len: u32, tags: u32, hdrsize: u32, need: u32) -> bool
     requires some { 0 < len }
-    requires len { len ≤ 2 ^ 28 }
-    requires tags { tags ≤ 2 ^ 28 }
+    requires len { len ≤ 2 ^ 29 }
+    requires tags { tags ≤ 2 ^ 29 }
     requires loss { loss_size hdrsize ≤ len }
     requires need { need ≤ len }
     requires words_before { bits.words_of r ≤ bits.words_of w }

@@ -1,0 +1,14 @@
+pub mod Covering
+pub mod Heads
+pub mod Spelled
+pub mod Steps
+pub mod Following
+pub mod Reading
+pub mod Rounds
+pub mod Splicing
+pub mod Lying
+pub mod Emission
+pub mod Emitted
+pub mod Fitting
+pub mod Keeping
+pub mod Writing

@@ -1,0 +1,6 @@
+pub mod Records
+pub mod PlainRing
+pub mod Calls
+pub mod Follows
+pub mod Offered
+pub mod kept
