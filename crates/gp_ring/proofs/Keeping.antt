@@ -48,6 +48,11 @@ sized-on h slots tags slots2 tags2 batch batch_tags zeros k a b =
       batch_tags_size = k.batch_tags_size ∙ sym b;
     }
 
+pub kept-taken : (h : ℕ) (slots tags batch batch_tags zeros : List ℕ) (r w overflow o2 : ℕ) (seen : Option Look) (old : Hand) → IsKept h slots tags batch batch_tags zeros r w overflow seen old → count_of o2 ≡ 0
+    → IsKept h slots tags batch batch_tags zeros r w o2 seen old
+kept-taken h slots tags batch batch_tags zeros r w overflow o2 seen old k z =
+    record { sized = k.sized; r_word = k.r_word; spelled = k.spelled; seen_front = k.seen_front; change_fits = λ p. absurd (omega arith); in_hand = k.in_hand }
+
 made : (hdrsize : ℕ) (r overflow since : ℕ) (ended : Bool) (seen : Option Seen) (len tags : ℕ) (unread : List Piece) (words labels : ℕ) → PlainRing
 made hdrsize r overflow since ended seen len tags unread words labels =
     record {
@@ -67,7 +72,7 @@ made hdrsize r overflow since ended seen len tags unread words labels =
       hand = Nothing;
     }
 
-module _ (h : ℕ) (slots tags batch batch_tags zeros : List ℕ) (r w overflow since : ℕ) (ended : Bool) (seen : Option Look) (old : Hand) (found : Found) (k : IsKept h slots tags batch batch_tags zeros r w seen old)
+module _ (h : ℕ) (slots tags batch batch_tags zeros : List ℕ) (r w overflow since : ℕ) (ended : Bool) (seen : Option Look) (old : Hand) (found : Found) (k : IsKept h slots tags batch batch_tags zeros r w overflow seen old)
     (next tag time : ℕ) (header stack slots2 tags2 : List ℕ) (can : CanEmit (ring_of h slots tags r w overflow since ended seen found) header stack)
     (up : IsRaised w next (length slots) (size_of (length header) (length stack)))
     (e : slots2 ≡ put_at (length slots) (words_of w % length slots) (spelled time header stack) slots) (f : tags2 ≡ slice_set tags (tags_of w % length tags) tag) where
@@ -96,12 +101,13 @@ module _ (h : ℕ) (slots tags batch batch_tags zeros : List ℕ) (r w overflow 
       let t = up.tags in let u = up.words in
       (move look.w (seen-spelled h slots tags r w next tag time header stack some tags_some can.header_size k.spelled up can.free can.room look.w s.2 s.0), omega arith, omega arith)
 
-  pub emit-kept : IsKept h slots2 tags2 batch batch_tags zeros r next seen hand.Nothing
+  pub emit-kept : IsKept h slots2 tags2 batch batch_tags zeros r next overflow seen hand.Nothing
   emit-kept = record {
     sized = sized-on h slots tags slots2 tags2 batch batch_tags zeros k.sized lengths tag_lengths;
     r_word = k.r_word;
     spelled = move next (next-spelled h slots tags r w next tag time header stack some tags_some can.header_size k.spelled up can.free can.room);
     seen_front = seen-on seen k.seen_front;
+    change_fits = k.change_fits;
     in_hand = tt;
   }
 

@@ -12,3 +12,5 @@ pub mod Emitted
 pub mod Fitting
 pub mod Keeping
 pub mod Writing
+pub mod Rounding
+pub mod Acting

@@ -3,4 +3,5 @@ pub mod PlainRing
 pub mod Calls
 pub mod Follows
 pub mod Offered
+pub mod Shown
 pub mod kept

@@ -179,14 +179,23 @@ is_ahead ring seen = nat_lt ring.read_tags seen.tags
 abbrev pub is_unchanged : PlainRing → Seen → Bool
 is_unchanged ring seen = (ring.change == seen.change) && (ring.pending == seen.pending)
 
-abbrev pub found : PlainRing → Seen → Found
-found ring seen =
-    if is_ahead ring seen then Batch (flat_map (λ piece. piece.words) (batch ring seen)) (map (λ piece. piece.tag) (batch ring seen))
-    else if nat_lt 0 seen.pending then
+-- where no record is ahead: the loss, if it is still the one that was seen, or the end
+abbrev pub found_behind : PlainRing → Seen → Found
+found_behind ring seen =
+    if nat_lt 0 seen.pending then
     (if is_unchanged ring seen then Taken ring.pending ring.since
     else Raced (overflow_word seen.change seen.pending) (overflow_word ring.change ring.pending))
     else if seen.ended then End
     else Nothing
+
+abbrev pub found : PlainRing → Seen → Found
+found ring seen =
+    if is_ahead ring seen then Batch (flat_map (λ piece. piece.words) (batch ring seen)) (map (λ piece. piece.tag) (batch ring seen))
+    else found_behind ring seen
+
+-- an act forgets what was seen, and has in hand what it found
+abbrev pub with_found : PlainRing → Found → PlainRing
+with_found ring answer = record ring { seen = None; hand = answer }
 
 -- the records that the act takes
 abbrev pub records_found : PlainRing → Seen → List RingRecord
@@ -201,8 +210,24 @@ without_batch ring seen =
 
 abbrev pub acted_on : PlainRing → Seen → PlainRing
 acted_on ring seen =
-    record (
+    with_found (
     if is_ahead ring seen then without_batch ring seen
     else if nat_lt 0 seen.pending && is_unchanged ring seen then without_loss ring
     else ring
-    ) { seen = None; hand = found ring seen }
+    ) (found ring seen)
+
+-- after an act on what was seen
+abbrev pub act_after : PlainRing → Option Seen → PlainRing
+act_after ring None = ring
+act_after ring (Some seen) = acted_on ring seen
+
+abbrev pub acted : PlainRing → PlainRing
+acted ring = act_after ring ring.seen
+
+-- the records that it takes
+abbrev pub taken_after : PlainRing → Option Seen → List RingRecord
+taken_after ring None = []
+taken_after ring (Some seen) = records_found ring seen
+
+abbrev pub records_taken : PlainRing → List RingRecord
+records_taken ring = taken_after ring ring.seen

@@ -1,3 +1,6 @@
+ghost use Rattle.std.specs.Prelude.{◌≡◌, ◌≤◌};
+ghost use Rattle.gp_ring.specs.kept.Fields.{words_in, IsWithin};
+
 // What a look saw: the end mark, the overflow word and `w`, loaded in this order.
 #[derive(Clone, Copy, Debug)]
 pub(crate) struct Look {
@@ -22,4 +25,18 @@ pub(crate) enum Hand {
     Raced { was: u64, found: u64 },
     Nothing,
     End,
+}
+
+impl Part {
+    pub(crate) fn of<'a>(&self, ring: &'a [u64], copy: &'a [u64]) -> &'a [u64]
+        requires order { self.now.from ≤ self.now.to }
+        requires within { IsWithin self.now ring.now copy.now }
+        ensures { result.now ≡ words_in self.now ring.now copy.now }
+    {
+        if self.copied {
+            &copy[self.from..self.to]
+        } else {
+            &ring[self.from..self.to]
+        }
+    }
 }

@@ -23,17 +23,20 @@
 //! call of `Ring` is its step. `specs/Follows.antt` says what holds between a ring, offers and records taken: each call's
 //! clause `follows` is for all of both, so a caller keeps its own lists. `law_ring` says it of every list of calls.
 //!
-//! `Ring` is for one thread, and has no act yet: it is written, closed and looked at. Its words stand in vectors that are
-//! taken in `new`. No other call takes memory, and its time
-//! grows with the words that it moves.
+//! `Ring` is for one thread: its words stand in vectors that are taken in `new`. No other call takes memory, and its time
+//! grows with the words that it moves. A batch is handed out where it lies; one that goes over the end of the ring is put
+//! together in a copy.
 #![tactic(auto)]
 
 mod emit;
+mod gather;
 mod hand;
 mod laws;
 mod ring;
+mod taken;
 mod wrote;
 
 pub use laws::law_ring;
 pub use ring::Ring;
+pub use taken::Taken;
 pub use wrote::Wrote;

@@ -1,17 +1,21 @@
-ghost use Rattle.std.specs.Prelude.{◌≡◌, ◌+◌, ◌-◌, ◌*◌, ◌/◌, ◌%◌, ◌<◌, ◌≤◌, ◌^◌, [], ◌∷◌, ◌++◌, length, max, replicate, IfOk, true, false, ◌==◌};
+ghost use Rattle.std.specs.Prelude.{◌≡◌, ◌+◌, ◌-◌, ◌*◌, ◌/◌, ◌%◌, ◌<◌, ◌≤◌, ◌^◌, [], ◌∷◌, ◌++◌, length, max, replicate, IfOk, IsSome, true, false, ◌==◌};
 ghost use Rattle.std.specs.Int.{IsNextPowerOfTwo};
 ghost use Rattle.gp_layout.specs.Spelling.{loss_size, size_of, spelled};
 ghost use Rattle.gp_layout.specs.Place.{raise_of};
-ghost use Rattle.gp_ring.specs.PlainRing.{empty_ring, emitted, written, wrote, closed, looked, without_loss, loss_piece};
+ghost use Rattle.gp_ring.specs.PlainRing.{empty_ring, emitted, written, wrote, closed, looked, acted, records_taken, without_loss, loss_piece};
 ghost use Rattle.gp_ring.specs.PlainRing.{with_nothing};
 ghost use Rattle.gp_ring.specs.Follows.{IsOfferable};
 ghost use Rattle.gp_ring.specs.Offered.{offer_of, GoesOn, NumbersFit};
+ghost use Rattle.gp_ring.specs.Shown.{Shows, RestsAt};
+ghost use Rattle.std.specs.Borrow.{sem};
 
 use crate::emit::emit_record;
+use crate::gather::{gather, gather_tags};
 use crate::hand::{Hand, Look};
+use crate::taken::Taken;
 use crate::wrote::Wrote;
 use gp_isa::Memory;
-use gp_layout::{bump, count_of, room_one, room_two, taken};
+use gp_layout::{bump, count_of, room_one, room_two, tags_of, taken, words_of};
 use std::alloc::Global;
 use std::marker::Model;
 
@@ -44,7 +48,7 @@ impl Model for Ring {
     ghost view = { λ x. ring_of x.hdrsize x.slots.items x.tags.items x.r x.w x.overflow x.overflow_time x.ended x.seen
         (found_of x.slots.items x.batch.items x.tags.items x.batch_tags.items x.hand) };
 
-    ghost invariant = { λ x. IsKept x.hdrsize x.slots.items x.tags.items x.batch.items x.batch_tags.items x.zeros.items x.r x.w x.seen x.hand };
+    ghost invariant = { λ x. IsKept x.hdrsize x.slots.items x.tags.items x.batch.items x.batch_tags.items x.zeros.items x.r x.w x.overflow x.seen x.hand };
 }
 
 impl Ring {
@@ -215,5 +219,83 @@ impl Ring {
             w: self.w,
         });
         self.hand = Hand::Nothing;
+    }
+
+    // Acts on what was seen, and has in hand what it found.
+    fn advance(&mut self)
+        requires { IsSome self.old.seen }
+        ensures { self.new ≡ acted self.old }
+    {
+        let look = match self.seen {
+            Some(look) => look,
+            None => return,
+        };
+        self.seen = None;
+        let records = tags_of(look.w) - tags_of(self.r);
+        if records > 0 {
+            let (from, to) = (words_of(self.r), words_of(look.w));
+            let words = gather(
+                &self.slots,
+                &mut self.batch,
+                records,
+                self.hdrsize,
+                from,
+                to,
+            );
+            let tags = gather_tags(&self.tags, &mut self.batch_tags, tags_of(self.r), records);
+            self.r = look.w;
+            self.hand = Hand::Batch { words, tags };
+        } else if count_of(look.overflow) == 0 {
+            self.hand = if look.ended { Hand::End } else { Hand::Nothing };
+        } else if self.overflow == look.overflow {
+            self.hand = Hand::Lost {
+                count: count_of(look.overflow) as u64,
+                time: self.overflow_time,
+            };
+            self.overflow = taken(look.overflow);
+        } else {
+            self.hand = Hand::Raced {
+                was: look.overflow,
+                found: self.overflow,
+            };
+        }
+    }
+
+    // What the last act found.
+    fn shown(&self) -> Taken<'_>
+        ensures { Shows self.now.hand result }
+    {
+        match self.hand {
+            Hand::Batch { words, tags } => Taken::Batch {
+                words: words.of(&self.slots, &self.batch),
+                tags: tags.of(&self.tags, &self.batch_tags),
+            },
+            Hand::Lost { count, time } => Taken::Lost { count, time },
+            Hand::Raced { was, found } => Taken::Raced { was, found },
+            Hand::Nothing => Taken::Nothing,
+            Hand::End => Taken::End,
+        }
+    }
+
+    /// Acts on what the last look saw. A batch is handed out where it lies, and copied only where it goes over the end.
+    pub fn act(&mut self) -> Taken<'_>
+        requires { IsSome self.old.seen }
+        ensures answer { Shows (acted self.old).hand result }
+        ensures* after { sem 𝓛 (RestsAt self.entry (acted self.old)) }
+        ensures follows { GoesOn self.old (acted self.old) [] (records_taken self.old) }
+    {
+        self.advance();
+        self.shown()
+    }
+
+    /// A look and an act.
+    pub fn read(&mut self) -> Taken<'_>
+        ensures answer { Shows (acted (looked self.old)).hand result }
+        ensures* after { sem 𝓛 (RestsAt self.entry (acted (looked self.old))) }
+        ensures follows { GoesOn self.old (acted (looked self.old)) [] (records_taken (looked self.old)) }
+    {
+        self.look();
+        self.advance();
+        self.shown()
     }
 }

@@ -1,5 +1,5 @@
 -- The ring as it is kept: what the fields stand for, and what holds of them.
-use Rattle.std.specs.Prelude.{◌≡◌, ℕ, ◌+◌, ◌-◌, ◌≤◌, ◌^◌, Bool, if◌then◌else◌, List, length, take, drop, replicate, Option, None, Some, IfSome}
+use Rattle.std.specs.Prelude.{◌≡◌, ℕ, ◌+◌, ◌-◌, ◌≤◌, ◌<◌, ◌^◌, Bool, if◌then◌else◌, List, length, take, drop, replicate, Option, None, Some, IfSome}
 use Rattle.gp_layout.specs.Words.{words_of, tags_of, counts_word, count_of, change_of}
 use Rattle.gp_layout.specs.Spelling.{loss_size}
 use Rattle.gp_ring.specs.PlainRing as plain
@@ -79,10 +79,12 @@ pub record IsSized (hdrsize : ℕ) (slots tags batch batch_tags zeros : List ℕ
   pub batch_size : length batch ≡ length slots
   pub batch_tags_size : length batch_tags ≡ length tags
 
-pub record IsKept (hdrsize : ℕ) (slots tags batch batch_tags zeros : List ℕ) (r w : ℕ) (seen : Option Look) (hand : Hand) : Type 0 where
+pub record IsKept (hdrsize : ℕ) (slots tags batch batch_tags zeros : List ℕ) (r w overflow : ℕ) (seen : Option Look) (hand : Hand) : Type 0 where
   pub sized : IsSized hdrsize slots tags batch batch_tags zeros
   pub r_word : r ≡ counts_word (words_of r) (tags_of r)
   pub spelled : IsSpelled hdrsize slots tags r w
   -- what was seen is a front of that
   pub seen_front : IfSome seen (λ look. IsSpelled hdrsize slots tags r look.w × (tags_of look.w ≤ tags_of w) × (words_of look.w ≤ words_of w))
+  -- the change number may rise as a pending loss is taken
+  pub change_fits : 0 < count_of overflow → change_of overflow + 1 < 2 ^ 32
   pub in_hand : IsInHand slots batch tags batch_tags hand

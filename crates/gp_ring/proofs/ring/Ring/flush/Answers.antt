@@ -6,7 +6,7 @@ use Rattle.gp_layout.specs.Spelling.{spelled, size_of, loss_size}
 use Rattle.gp_ring.specs.PlainRing.{PlainRing, Nothing, emitted, with_nothing, without_loss, loss_piece}
 use Rattle.gp_ring.specs.kept.Slots.{put_at, IsRaised}
 use Rattle.gp_ring.specs.kept.Fields.{ring_of, found_of}
-use Rattle.gp_ring.proofs.Keeping.{CanEmit, flush-can, whole, emit-kept, emit-ring}
+use Rattle.gp_ring.proofs.Keeping.{CanEmit, flush-can, whole, emit-kept, emit-ring, kept-taken}
 use Rattle.gp_ring.proofs.Spelled.{length-zeros}
 use Rattle.gp_ring.proofs.Writing.{taken-ring}
 use Rattle.gp_ring.proofs.ring.Ring.flush.Goals as goal
@@ -27,10 +27,10 @@ invariant_of-self c =
     let up = subst (λ (xs : List ℕ). IsRaised x.w s.result (length xs) (size_of (length header) (length stack))) c.deref_mut.ensures.value s.ensures.w in
     let e = subst (λ (xs : List ℕ). s.new.slots ≡ put_at (length xs) (words_of x.w % length xs) words xs) c.deref_mut.ensures.value s.ensures.slots in
     let f = subst (λ (xs : List ℕ). s.new.tags ≡ slice_set xs (tags_of x.w % length xs) 0) c.deref_mut-2.ensures.value s.ensures.tags in
-    emit-kept x.hdrsize x.slots.items x.tags.items x.batch.items x.batch_tags.items x.zeros.items x.r x.w x.overflow x.overflow_time x.ended x.seen x.hand (found_of x.slots.items x.batch.items x.tags.items x.batch_tags.items x.hand) c.self.invariant
+    kept-taken _ _ _ _ _ _ _ _ x.overflow _ _ _ (emit-kept x.hdrsize x.slots.items x.tags.items x.batch.items x.batch_tags.items x.zeros.items x.r x.w x.overflow x.overflow_time x.ended x.seen x.hand (found_of x.slots.items x.batch.items x.tags.items x.batch_tags.items x.hand) c.self.invariant
     s.result 0 x.overflow_time header stack _ _ can up
     (whole x.slots.len x.slots.items s.new.slots _ (ap length (sym c.deref_mut.ensures.value) ∙ c.deref_mut.ensures.len) (s.auto.slots ∙ ap length c.deref_mut.ensures.value) e)
-    (whole x.tags.len x.tags.items s.new.tags _ (ap length (sym c.deref_mut-2.ensures.value) ∙ c.deref_mut-2.ensures.len) (s.auto.tags ∙ ap length c.deref_mut-2.ensures.value) f)
+    (whole x.tags.len x.tags.items s.new.tags _ (ap length (sym c.deref_mut-2.ensures.value) ∙ c.deref_mut-2.ensures.len) (s.auto.tags ∙ ap length c.deref_mut-2.ensures.value) f)) c.taken-self-inside.ensures.count
 
 pub returns : goal.returns
 returns c =
