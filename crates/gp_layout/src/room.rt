@@ -16,7 +16,8 @@ pub fn room_one(r: u64, w: u64, len: u32, tags: u32, need: u32) -> bool
     requires words_within { bits.words_of w ≤ bits.words_of r + len }
     requires tags_before { bits.tags_of r ≤ bits.tags_of w }
     requires tags_within { bits.tags_of w ≤ bits.tags_of r + tags }
-    ensures { result ≡ room_for_one len tags (bits.words_of w - bits.words_of r) (bits.tags_of w - bits.tags_of r) (bits.words_of w % len) need }
+    ensures { result ≡ room_for_one len tags (bits.words_of w - bits.words_of r) (bits.tags_of w - bits.tags_of r)
+        (bits.words_of w % len) need }
 {
     let words_used = words_of(w) - words_of(r);
     let tags_used = tags_of(w) - tags_of(r);
@@ -36,7 +37,8 @@ pub fn room_two(r: u64, w: u64, len: u32, tags: u32, hdrsize: u32, need: u32) ->
     requires words_within { bits.words_of w ≤ bits.words_of r + len }
     requires tags_before { bits.tags_of r ≤ bits.tags_of w }
     requires tags_within { bits.tags_of w ≤ bits.tags_of r + tags }
-    ensures { result ≡ room_for_two len tags (bits.words_of w - bits.words_of r) (bits.tags_of w - bits.tags_of r) (bits.words_of w % len) (loss_size hdrsize) need }
+    ensures { result ≡ room_for_two len tags (bits.words_of w - bits.words_of r) (bits.tags_of w - bits.tags_of r)
+        (bits.words_of w % len) (loss_size hdrsize) need }
 {
     let words_used = words_of(w) - words_of(r);
     let tags_used = tags_of(w) - tags_of(r);

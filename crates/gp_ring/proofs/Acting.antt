@@ -108,7 +108,8 @@ module _ (h : ℕ) (slots tags batch batch_tags zeros : List ℕ) (r w overflow 
       let t : tags_of r + (tags_of look.w - tags_of r) ≡ tags_of look.w = omega arith in
       ap (λ (j : ℕ). pieces_of (records_at slots (length slots) j (words_of r)) (tags_at tags (length tags) j (tags_of r))) parts
       ∙ ap (λ (us : List (List ℕ)). pieces_of us (tags_at tags (length tags) (n + m) (tags_of r))) (records-append slots (length slots) h n m (words_of r) (words_of look.w) front.0.lie)
-      ∙ ap (pieces_of (records_at slots (length slots) n (words_of r) ++ records_at slots (length slots) m (words_of look.w))) (tags-append tags (length tags) n m (tags_of r) ∙ ap (λ (j : ℕ). tags_at tags (length tags) n (tags_of r) ++ tags_at tags (length tags) m j) t)
+      ∙ ap (pieces_of (records_at slots (length slots) n (words_of r) ++ records_at slots (length slots) m (words_of look.w)))
+      (tags-append tags (length tags) n m (tags_of r) ∙ ap (λ (j : ℕ). tags_at tags (length tags) n (tags_of r) ++ tags_at tags (length tags) m j) t)
       ∙ pieces-append (records_at slots (length slots) n (words_of r)) (records_at slots (length slots) m (words_of look.w)) (tags_at tags (length tags) n (tags_of r)) (tags_at tags (length tags) m (tags_of look.w)) same_lengths
 
   count : length (pieces_of (records_at slots (length slots) (tags_of look.w - tags_of r) (words_of r)) (tags_at tags (length tags) (tags_of look.w - tags_of r) (tags_of r))) ≡ tags_of look.w - tags_of r

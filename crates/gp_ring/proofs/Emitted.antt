@@ -97,7 +97,8 @@ module _ (h : ℕ) (slots tags : List ℕ) (r w next tag time : ℕ) (header sta
       let ys = put_at (length slots) (words_of w % length slots) (spelled time header stack) slots in
       ap (λ (n : ℕ). records_at ys (length slots) n (words_of r)) (sym counts)
       ∙ records-append ys (length slots) h (tags_of w - tags_of r) 1 (words_of r) (words_of w) (front w (refl_le (words_of w)) k)
-      ∙ ap (λ (wss : List (List ℕ)). wss ++ records_at ys (length slots) 1 (words_of w)) (records-same slots ys (length slots) (words_of r) (words_of w) h agree (tags_of w - tags_of r) (words_of r) (words_of w) (refl_le (words_of r)) (refl_le (words_of w)) k.lie)
+      ∙ ap (λ (wss : List (List ℕ)). wss ++ records_at ys (length slots) 1 (words_of w))
+      (records-same slots ys (length slots) (words_of r) (words_of w) h agree (tags_of w - tags_of r) (words_of r) (words_of w) (refl_le (words_of r)) (refl_le (words_of w)) k.lie)
       ∙ ap (λ (wss : List (List ℕ)). records_at slots (length slots) (tags_of w - tags_of r) (words_of r) ++ wss) (record_there slots (length slots) (words_of w) (spelled time header stack) some refl first ws_some fits)
 
   tag_there : word_at (slice_set tags (tags_of w % length tags) tag) (length tags) (tags_of w) ≡ tag

@@ -57,12 +57,14 @@ head-same-at h len tags [] o f = elim (nat_le 1 tags && nat_le (2 * words_for h 
       let a : 1 ≤ tags = le_true 1 tags p.0 in let b : 2 * words_for h o ≤ len = le_true (2 * words_for h o) len p.1 in absurd (omega arith)
   | false ↦ λ e. refl
 ] refl
-head-same-at h len tags (p ∷ os) o f = elim (nat_le 1 tags && nat_le (2 * words_for h p) len) as (λ (b : Bool). (nat_le 1 tags && nat_le (2 * words_for h p) len) ≡ b → (if b then p ∷ head h (len - 2 * words_for h p) (tags - 1) (os ++ o ∷ []) else []) ≡ (if b then p ∷ head h (len - 2 * words_for h p) (tags - 1) os else [])) [
-  | true ↦ λ e. let q = and_parts (nat_le 1 tags) (nat_le (2 * words_for h p) len) e in
-      let a : 1 ≤ tags = le_true 1 tags q.0 in let b : 2 * words_for h p ≤ len = le_true (2 * words_for h p) len q.1 in
-      ap (λ (xs : List Offer). p ∷ xs) (head-same-at h (len - 2 * words_for h p) (tags - 1) os o (λ (k : length os + 1 ≤ tags - 1). omega (arith, f (omega arith))))
-  | false ↦ λ e. refl
-] refl
+head-same-at h len tags (p ∷ os) o f = elim (nat_le 1 tags && nat_le (2 * words_for h p) len) as
+    (λ (b : Bool). (nat_le 1 tags && nat_le (2 * words_for h p) len) ≡ b
+    → (if b then p ∷ head h (len - 2 * words_for h p) (tags - 1) (os ++ o ∷ []) else []) ≡ (if b then p ∷ head h (len - 2 * words_for h p) (tags - 1) os else [])) [
+      | true ↦ λ e. let q = and_parts (nat_le 1 tags) (nat_le (2 * words_for h p) len) e in
+          let a : 1 ≤ tags = le_true 1 tags q.0 in let b : 2 * words_for h p ≤ len = le_true (2 * words_for h p) len q.1 in
+          ap (λ (xs : List Offer). p ∷ xs) (head-same-at h (len - 2 * words_for h p) (tags - 1) os o (λ (k : length os + 1 ≤ tags - 1). omega (arith, f (omega arith))))
+      | false ↦ λ e. refl
+    ] refl
 
 pub head-same : (h len tags : ℕ) (os : List Offer) (o : Offer) → fit_twice h len tags (os ++ o ∷ []) ≡ false → head h len tags (os ++ o ∷ []) ≡ head h len tags os
 head-same h len tags os o f =

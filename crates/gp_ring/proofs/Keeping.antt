@@ -130,4 +130,5 @@ module _ (h : ℕ) (slots tags batch batch_tags zeros : List ℕ) (r w overflow 
       ∙ ap (λ (n : ℕ). make (length slots) n (unread_in slots2 tags2 r next) (words_of next) (tags_of next)) tag_lengths
       ∙ ap (λ (ps : List Piece). make (length slots) (length tags) ps (words_of next) (tags_of next)) unread
       ∙ ap (λ (n : ℕ). make (length slots) (length tags) (unread_in slots tags r w ++ record { tag = tag; words = spelled time header stack } ∷ []) n (tags_of next)) raised_words
-      ∙ ap (λ (n : ℕ). make (length slots) (length tags) (unread_in slots tags r w ++ record { tag = tag; words = spelled time header stack } ∷ []) (words_of w + raise_of (words_of w % length slots) (length slots) (length (spelled time header stack))) n) up.tags
+      ∙ ap (λ (n : ℕ). make (length slots) (length tags) (unread_in slots tags r w ++ record { tag = tag; words = spelled time header stack } ∷ [])
+      (words_of w + raise_of (words_of w % length slots) (length slots) (length (spelled time header stack))) n) up.tags

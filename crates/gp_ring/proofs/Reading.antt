@@ -6,7 +6,8 @@ use Rattle.std.proofs.lemmas.Bool.{and_parts}
 use Rattle.std.proofs.lemmas.Bool.Decides.{nat_tests}
 use Rattle.gp_layout.specs.Spelling.{loss_size}
 use Rattle.gp_ring.specs.Records.{Offer, RingRecord, Loss, Covers, words_for_most}
-use Rattle.gp_ring.specs.PlainRing.{PlainRing, Piece, Seen, Found, Batch, Taken, Raced, Nothing, End, record_of, unread_records, pending_records, batch, is_ahead, is_unchanged, found, records_found, acted_on, looked, closed, without_loss, without_batch, empty_ring}
+use Rattle.gp_ring.specs.PlainRing.{PlainRing, Piece, Seen, Found, Batch, Taken, Raced, Nothing, End, record_of, unread_records, pending_records}
+use Rattle.gp_ring.specs.PlainRing.{batch, is_ahead, is_unchanged, found, records_found, acted_on, looked, closed, without_loss, without_batch, empty_ring}
 use Rattle.gp_ring.specs.Follows.{Follows, IsSeen, BeginsWithHead}
 use Rattle.gp_ring.specs.Calls.{Call, Write, Close, Look, Act, History, first_history, after_call, act_on, AreCalls, run, AllIsCovered, TheHeadIsDelivered, NothingIsLost, TheEndIsTheEnd, CallsKeepFollowing}
 use Rattle.gp_ring.proofs.Following.{write-follows, nothing_pends, one_pends, not_zero, zero_above}
@@ -247,7 +248,9 @@ end-covered os rs ring s f k e =
     let z : s.pending ≤ 0 = lt_false 0 s.pending p.1 in
     let y : ring.pending ≡ s.pending = k.end_pending p.2 in
     let w : ring.pending ≡ 0 = omega arith in
-    let c : Covers rs os = subst (λ (xs : List RingRecord). Covers xs os) (ap (λ (xs : List RingRecord). xs ++ pending_records ring) (none_unread ring rs u) ∙ ap (λ (xs : List RingRecord). rs ++ xs) (nothing_pends ring.pending ring.since w) ∙ append-nil rs) f.covered in
+    let c : Covers rs os = subst (λ (xs : List RingRecord). Covers xs os)
+    (ap (λ (xs : List RingRecord). xs ++ pending_records ring) (none_unread ring rs u)
+    ∙ ap (λ (xs : List RingRecord). rs ++ xs) (nothing_pends ring.pending ring.since w) ∙ append-nil rs) f.covered in
     (u, w, k.ended p.2, c)
 
 end-history : (history : History) (x : Option Seen) → Follows history.offers history.taken history.ring → IfSome x (IsSeen history.ring)

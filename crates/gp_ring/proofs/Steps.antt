@@ -19,7 +19,8 @@ module _ (ring : PlainRing) (offer : Offer) where
   after : (p q : Bool) → (ring.pending == 0) ≡ p → (if p then has_room ring offer else has_room_behind_loss ring offer) ≡ q
       → written ring offer ≡ with_nothing (if q then (if p then emitted ring (piece_for offer) else emitted (emitted (without_loss ring) (loss_piece ring)) (piece_for offer)) else (if p then with_first_loss ring offer.time else with_one_more ring))
   unfolding choose
-  after p q e f = ap with_nothing (both (ring.pending == 0) (has_room ring offer) (has_room_behind_loss ring offer) (emitted ring (piece_for offer)) (emitted (emitted (without_loss ring) (loss_piece ring)) (piece_for offer)) (with_first_loss ring offer.time) (with_one_more ring) p q e f)
+  after p q e f = ap with_nothing (both (ring.pending == 0) (has_room ring offer) (has_room_behind_loss ring offer)
+      (emitted ring (piece_for offer)) (emitted (emitted (without_loss ring) (loss_piece ring)) (piece_for offer)) (with_first_loss ring offer.time) (with_one_more ring) p q e f)
 
   answer : (p q : Bool) → (ring.pending == 0) ≡ p → (if p then has_room ring offer else has_room_behind_loss ring offer) ≡ q
       → wrote ring offer ≡ (if q then Kept ring.pending else Lost (counts_word ring.read_words ring.read_tags) (overflow_word ring.change ring.pending))

@@ -41,12 +41,15 @@ pub room-behind : (ring : PlainRing) (need : ℕ) → ring.read_words ≤ ring.w
     → let mid = with_nothing (emitted (without_loss ring) (loss_piece ring)) in mid.written_words + raise_of (mid.written_words % mid.len) mid.len need ≤ mid.read_words + mid.len
 room-behind ring need o t =
     let at = ring.written_words % ring.len in
-    let p = and_parts (nat_le ((ring.written_tags - ring.read_tags) + 2) ring.tags) (nat_le ((ring.written_words - ring.read_words) + raise_of at ring.len (loss_size ring.hdrsize) + raise_of (after_of at ring.len (loss_size ring.hdrsize)) ring.len need) ring.len) t in
+    let p = and_parts (nat_le ((ring.written_tags - ring.read_tags) + 2) ring.tags)
+    (nat_le ((ring.written_words - ring.read_words) + raise_of at ring.len (loss_size ring.hdrsize) + raise_of (after_of at ring.len (loss_size ring.hdrsize)) ring.len need) ring.len) t in
     let q : (ring.written_words - ring.read_words) + raise_of (ring.written_words % ring.len) ring.len (loss_size ring.hdrsize) + raise_of (after_of (ring.written_words % ring.len) ring.len (loss_size ring.hdrsize)) ring.len need ≤ ring.len =
     le_true _ _ p.1 in
     let same : after_of (ring.written_words % ring.len) ring.len (loss_size ring.hdrsize) ≡ (ring.written_words + raise_of (ring.written_words % ring.len) ring.len (loss_size ring.hdrsize)) % ring.len =
     mod-add-mod ring.written_words ring.len (raise_of (ring.written_words % ring.len) ring.len (loss_size ring.hdrsize)) in
     let r = ap (λ (a : ℕ). raise_of a ring.len need) same in
-    let goal : (ring.written_words + raise_of (ring.written_words % ring.len) ring.len (loss_size ring.hdrsize)) + raise_of ((ring.written_words + raise_of (ring.written_words % ring.len) ring.len (loss_size ring.hdrsize)) % ring.len) ring.len need ≤ ring.read_words + ring.len =
+    let goal : (ring.written_words + raise_of (ring.written_words % ring.len) ring.len (loss_size ring.hdrsize))
+    + raise_of ((ring.written_words + raise_of (ring.written_words % ring.len) ring.len (loss_size ring.hdrsize)) % ring.len) ring.len need ≤ ring.read_words + ring.len =
     omega arith in
-    subst (λ (n : ℕ). (ring.written_words + raise_of (ring.written_words % ring.len) ring.len n) + raise_of ((ring.written_words + raise_of (ring.written_words % ring.len) ring.len n) % ring.len) ring.len need ≤ ring.read_words + ring.len) (sym (length-loss ring)) goal
+    subst (λ (n : ℕ). (ring.written_words + raise_of (ring.written_words % ring.len) ring.len n) + raise_of ((ring.written_words + raise_of (ring.written_words % ring.len) ring.len n) % ring.len) ring.len need ≤ ring.read_words + ring.len)
+    (sym (length-loss ring)) goal

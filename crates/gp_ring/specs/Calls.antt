@@ -1,7 +1,8 @@
 -- Every list of calls, and the laws of what it leaves.
 use Rattle.std.specs.Prelude.{◌≡◌, ℕ, true, false, List, [], ◌∷◌, ◌++◌, Option, None, Some, IsSome, IfSome}
 use Rattle.gp_ring.specs.Records.{Offer, RingRecord, Covers, IsOffer, fit_twice}
-use Rattle.gp_ring.specs.PlainRing.{PlainRing, Seen, empty_ring, written, closed, looked, acted_on, records_found, unread_records, pending_records, found, End}
+use Rattle.gp_ring.specs.PlainRing.{PlainRing, Seen, empty_ring, written, closed, looked, acted_on}
+use Rattle.gp_ring.specs.PlainRing.{records_found, unread_records, pending_records, found, End}
 use Rattle.gp_ring.specs.Follows.{Follows, BeginsWithHead, samples}
 
 pub data Call : Type 0 where
@@ -53,7 +54,8 @@ all_records history = history.taken ++ unread_records history.ring ++ pending_re
 -- for what every list of calls leaves
 abbrev pub AfterAnyCalls : (History → Type 0) → Type 0
 AfterAnyCalls P =
-    (hdrsize len tags : ℕ) (calls : List Call) → AreCalls (first_history hdrsize len tags) calls → P (run (first_history hdrsize len tags) calls)
+    (hdrsize len tags : ℕ) (calls : List Call) → AreCalls (first_history hdrsize len tags) calls
+    → P (run (first_history hdrsize len tags) calls)
 
 -- taken, unread and pending records cover the offers in order
 abbrev pub AllIsCovered : Type 0
@@ -66,11 +68,13 @@ TheHeadIsDelivered = AfterAnyCalls (λ history. BeginsWithHead history.ring hist
 -- where all offers fit twice over nothing is lost
 abbrev pub NothingIsLost : Type 0
 NothingIsLost =
-    AfterAnyCalls (λ history. fit_twice history.ring.hdrsize history.ring.len history.ring.tags history.offers ≡ true → all_records history ≡ samples history.offers)
+    AfterAnyCalls (λ history. fit_twice history.ring.hdrsize history.ring.len history.ring.tags history.offers ≡ true
+    → all_records history ≡ samples history.offers)
 
 -- who finds the end has taken all
 abbrev pub TheEndIsTheEnd : Type 0
-TheEndIsTheEnd = AfterAnyCalls (λ history. IfSome history.ring.seen (λ seen. found history.ring seen ≡ End → Covers history.taken history.offers))
+TheEndIsTheEnd =
+    AfterAnyCalls (λ history. IfSome history.ring.seen (λ seen. found history.ring seen ≡ End → Covers history.taken history.offers))
 
 -- whoever carries offers and records taken may go on to do so
 abbrev pub CallsKeepFollowing : Type 0

@@ -46,7 +46,8 @@ pub record Follows (offers : List Offer) (records : List RingRecord) (ring : Pla
   pub change : ring.change ≤ 2 * length offers
   pub change_pending : 0 < ring.pending → ring.change + 1 ≤ 2 * length offers
 
--- An offer may be made: the ring isn't closed, fewer than 2^30 offers came before, and the words of all, this one's too, are twice over below 2^32.
+-- An offer may be made: the ring isn't closed, fewer than 2^30 offers came before, and the words of all, this one's too, are
+-- twice over below 2^32.
 pub record MayOffer (offers : List Offer) (ring : PlainRing) (offer : Offer) : Type 0 where
   pub open_ring : ring.ended ≡ false
   pub offer_fits : IsOffer ring.hdrsize ring.len offer

@@ -10,7 +10,8 @@ offer_of tag time header stack = record { time = time; tag = tag; header = heade
 
 -- whoever follows with these offers and records before does so after, with one offer more
 abbrev pub GoesOn : PlainRing → PlainRing → List Offer → List RingRecord → Type 0
-GoesOn old new more taken = (offers : List Offer) (records : List RingRecord) → Follows offers records old → Follows (offers ++ more) (records ++ taken) new
+GoesOn old new more taken =
+    (offers : List Offer) (records : List RingRecord) → Follows offers records old → Follows (offers ++ more) (records ++ taken) new
 
 -- the numbers of the ring stay in the bits of its words, whatever becomes of the offer
 pub record NumbersFit (ring : PlainRing) (offer : Offer) : Type 0 where

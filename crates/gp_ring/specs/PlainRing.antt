@@ -1,5 +1,6 @@
 -- The ring as plain lists and numbers, and what each call does to it.
-use Rattle.std.specs.Prelude.{ℕ, ◌+◌, ◌-◌, ◌%◌, Bool, true, false, ◌&&◌, if◌then◌else◌, nat_lt, ◌==◌, List, [], ◌∷◌, ◌++◌, map, length, take, drop, replicate, slice_index, Option, None, Some}
+use Rattle.std.specs.Prelude.{ℕ, ◌+◌, ◌-◌, ◌%◌, Bool, true, false, ◌&&◌, if◌then◌else◌, nat_lt, ◌==◌, Option, None, Some}
+use Rattle.std.specs.Prelude.{List, [], ◌∷◌, ◌++◌, map, length, take, drop, replicate, slice_index}
 use Rattle.std.specs.List.{flat_map}
 use Rattle.gp_layout.specs.Words.{counts_word, overflow_word}
 use Rattle.gp_layout.specs.Place.{raise_of}
@@ -164,7 +165,13 @@ closed ring = record ring { ended = true; hand = Nothing }
 abbrev pub looked : PlainRing → PlainRing
 looked ring =
     record ring {
-      seen = Some (record { ended = ring.ended; pending = ring.pending; change = ring.change; words = ring.written_words; tags = ring.written_tags });
+      seen = Some (record {
+        ended = ring.ended;
+        pending = ring.pending;
+        change = ring.change;
+        words = ring.written_words;
+        tags = ring.written_tags;
+      });
       hand = Nothing;
     }
 

@@ -1,5 +1,6 @@
 -- Offers, the records that a reader takes, and when records cover offers. Nothing here says where a record lies.
-use Rattle.std.specs.Prelude.{◌≡◌, ℕ, ◌+◌, ◌-◌, ◌*◌, ◌≤◌, Bool, true, false, ◌&&◌, if◌then◌else◌, nat_le, nat_eq, max, List, [], ◌∷◌, length, drop}
+use Rattle.std.specs.Prelude.{◌≡◌, ℕ, ◌+◌, ◌-◌, ◌*◌, ◌≤◌, Bool, true, false, ◌&&◌, if◌then◌else◌, nat_le, nat_eq, max}
+use Rattle.std.specs.Prelude.{List, [], ◌∷◌, length, drop}
 use Rattle.gp_layout.specs.Spelling.{size_of, loss_size}
 
 -- what is offered to the ring: a sample with its tag, and the time at which it is offered
@@ -24,7 +25,8 @@ abbrev pub Covers : List RingRecord → List Offer → Type 0
 Covers [] offers = offers ≡ []
 Covers (Sample sample ∷ records) [] = ⊥
 Covers (Sample sample ∷ records) (offer ∷ offers) = (sample ≡ offer) × Covers records offers
-Covers (Loss count time ∷ records) offers = (1 ≤ count) × (count ≤ length offers) × BeginsAt time offers × Covers records (drop count offers)
+Covers (Loss count time ∷ records) offers =
+    (1 ≤ count) × (count ≤ length offers) × BeginsAt time offers × Covers records (drop count offers)
 
 -- how many words an offer's record has
 abbrev pub words_for : ℕ → Offer → ℕ
@@ -56,7 +58,8 @@ abbrev pub all_zero : List ℕ → Bool
 all_zero [] = true
 all_zero (word ∷ words) = nat_eq word 0 && all_zero words
 
--- what may be offered to a ring of so many words: the header has its size and isn't all zero, and the record has at most half the ring's words
+-- what may be offered to a ring of so many words: the header has its size and isn't all zero, and the record has at most half
+-- the ring's words
 pub record IsOffer (hdrsize len : ℕ) (offer : Offer) : Type 0 where
   pub header_size : length offer.header ≡ hdrsize
   pub header_tells : all_zero offer.header ≡ false

@@ -36,7 +36,8 @@ fn emit_words(slots: &mut [u64], w: u64, time: u64, header: &[u64], stack: &[u64
     requires fits { size_of (length header.now) (length stack.now) ≤ length slots.old }
     requires words { bits.words_of w + 2 * size_of (length header.now) (length stack.now) < 2 ^ 32 }
     requires tags { bits.tags_of w + 1 < 2 ^ 30 }
-    ensures slots { slots.new ≡ put_at (length slots.old) (bits.words_of w % length slots.old) (spelled time header.now stack.now) slots.old }
+    ensures slots { slots.new ≡ put_at (length slots.old) (bits.words_of w % length slots.old)
+        (spelled time header.now stack.now) slots.old }
     ensures w { IsRaised w result (length slots.old) (size_of (length header.now) (length stack.now)) }
 {
     let len = slots.len() as u32;
@@ -67,7 +68,8 @@ pub(crate) fn emit_record(
     requires fits { size_of (length header.now) (length stack.now) ≤ length slots.old }
     requires words { bits.words_of w + 2 * size_of (length header.now) (length stack.now) < 2 ^ 32 }
     requires tags { bits.tags_of w + 1 < 2 ^ 30 }
-    ensures slots { slots.new ≡ put_at (length slots.old) (bits.words_of w % length slots.old) (spelled time header.now stack.now) slots.old }
+    ensures slots { slots.new ≡ put_at (length slots.old) (bits.words_of w % length slots.old)
+        (spelled time header.now stack.now) slots.old }
     ensures tags { tags.new ≡ slice_set tags.old (bits.tags_of w % length tags.old) tag }
     ensures w { IsRaised w result (length slots.old) (size_of (length header.now) (length stack.now)) }
 {

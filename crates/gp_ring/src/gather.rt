@@ -52,7 +52,8 @@ fn stop_of(slots: &[u64], at: usize, records: u32, hdrsize: u32, from: u32, to: 
     requires over { length slots.now < at + (to - from) }
     ensures order { at ≤ result }
     ensures within { result ≤ length slots.now }
-    ensures words { in_order slots.now records from ≡ take (result - at) (drop at slots.now) ++ take ((at + (to - from)) - length slots.now) slots.now }
+    ensures words { in_order slots.now records from
+        ≡ take (result - at) (drop at slots.now) ++ take ((at + (to - from)) - length slots.now) slots.now }
 {
     let mut place = at;
     for _ in 0..records {

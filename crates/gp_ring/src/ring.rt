@@ -1,9 +1,11 @@
-ghost use Rattle.std.specs.Prelude.{◌≡◌, ◌+◌, ◌-◌, ◌*◌, ◌/◌, ◌%◌, ◌<◌, ◌≤◌, ◌^◌, [], ◌∷◌, ◌++◌, length, max, replicate, IfOk, IsSome, true, false, ◌==◌};
+ghost use Rattle.std.specs.Prelude.{◌≡◌, ◌+◌, ◌-◌, ◌*◌, ◌/◌, ◌%◌, ◌<◌, ◌≤◌, ◌^◌, ◌==◌, [], ◌∷◌, ◌++◌};
+ghost use Rattle.std.specs.Prelude.{length, max, replicate, IfOk, IsSome, true, false};
 ghost use Rattle.std.specs.Int.{IsNextPowerOfTwo};
 ghost use Rattle.gp_layout.specs.Spelling.{loss_size, size_of, spelled};
 ghost use Rattle.gp_layout.specs.Place.{raise_of};
-ghost use Rattle.gp_ring.specs.PlainRing.{empty_ring, emitted, written, wrote, closed, looked, acted, records_taken, without_loss, loss_piece};
-ghost use Rattle.gp_ring.specs.PlainRing.{with_nothing};
+ghost use Rattle.gp_layout.specs.Words.{counts_word};
+ghost use Rattle.gp_ring.specs.PlainRing.{empty_ring, emitted, written, wrote, closed, looked, acted, records_taken};
+ghost use Rattle.gp_ring.specs.PlainRing.{with_nothing, without_loss, loss_piece};
 ghost use Rattle.gp_ring.specs.Follows.{IsOfferable};
 ghost use Rattle.gp_ring.specs.Offered.{offer_of, GoesOn, NumbersFit};
 ghost use Rattle.gp_ring.specs.Shown.{Shows, RestsAt};
@@ -48,7 +50,8 @@ impl Model for Ring {
     ghost view = { λ x. ring_of x.hdrsize x.slots.items x.tags.items x.r x.w x.overflow x.overflow_time x.ended x.seen
         (found_of x.slots.items x.batch.items x.tags.items x.batch_tags.items x.hand) };
 
-    ghost invariant = { λ x. IsKept x.hdrsize x.slots.items x.tags.items x.batch.items x.batch_tags.items x.zeros.items x.r x.w x.overflow x.seen x.hand };
+    ghost invariant = { λ x. IsKept x.hdrsize x.slots.items x.tags.items x.batch.items x.batch_tags.items x.zeros.items
+        x.r x.w x.overflow x.seen x.hand };
 }
 
 impl Ring {
@@ -88,6 +91,41 @@ impl Ring {
         })
     }
 
+    /// How many header words a record has.
+    pub fn hdrsize(&self) -> u32
+        ensures { result ≡ self.now.hdrsize }
+    {
+        self.hdrsize
+    }
+
+    /// How many data words the ring has.
+    pub fn len(&self) -> u32
+        ensures { result ≡ self.now.len }
+    {
+        self.slots.len() as u32
+    }
+
+    /// Whether the end is marked.
+    pub fn is_closed(&self) -> bool
+        ensures { result ≡ self.now.ended }
+    {
+        self.ended
+    }
+
+    /// The word `r`: the data count and the tag count of what was taken.
+    pub fn read_word(&self) -> u64
+        ensures { result ≡ counts_word self.now.read_words self.now.read_tags }
+    {
+        self.r
+    }
+
+    /// The word `w`: the data count and the tag count of what was written.
+    pub fn written_word(&self) -> u64
+        ensures { result ≡ counts_word self.now.written_words self.now.written_tags }
+    {
+        self.w
+    }
+
     // Emits a record.
     fn emit(&mut self, tag: u64, time: u64, header: &[u64], stack: &[u64])
         requires header_size { length header.now ≡ self.old.hdrsize }
@@ -95,7 +133,9 @@ impl Ring {
         requires words { self.old.written_words + 2 * size_of (length header.now) (length stack.now) < 2 ^ 32 }
         requires tags { self.old.written_tags + 1 < 2 ^ 30 }
         requires free { self.old.written_tags < self.old.read_tags + self.old.tags }
-        requires room { self.old.written_words + raise_of (self.old.written_words % self.old.len) self.old.len (size_of (length header.now) (length stack.now)) ≤ self.old.read_words + self.old.len }
+        requires room { self.old.written_words
+            + raise_of (self.old.written_words % self.old.len) self.old.len (size_of (length header.now) (length stack.now))
+            ≤ self.old.read_words + self.old.len }
         ensures { self.new ≡ with_nothing (emitted self.old (record { tag = tag; words = spelled time header.now stack.now })) }
     {
         self.hand = Hand::Nothing;
@@ -117,7 +157,9 @@ impl Ring {
         requires tags { self.old.written_tags + 1 < 2 ^ 30 }
         requires change { self.old.change + 2 < 2 ^ 32 }
         requires free { self.old.written_tags < self.old.read_tags + self.old.tags }
-        requires room { self.old.written_words + raise_of (self.old.written_words % self.old.len) self.old.len (loss_size self.old.hdrsize) ≤ self.old.read_words + self.old.len }
+        requires room { self.old.written_words
+            + raise_of (self.old.written_words % self.old.len) self.old.len (loss_size self.old.hdrsize)
+            ≤ self.old.read_words + self.old.len }
         ensures { self.new ≡ with_nothing (emitted (without_loss self.old) (loss_piece self.old)) }
     {
         let count = [count_of(self.overflow) as u64];

@@ -1,5 +1,6 @@
 -- The data words of a ring: the word of a data count, and the records that lie between two counts.
-use Rattle.std.specs.Prelude.{◌≡◌, ℕ, zero, suc, ◌+◌, ◌-◌, ◌%◌, ◌≤◌, if◌then◌else◌, ◌==◌, nat_lt, List, [], ◌∷◌, ◌++◌, length, take, drop, slice_index, slice_set}
+use Rattle.std.specs.Prelude.{◌≡◌, ℕ, zero, suc, ◌+◌, ◌-◌, ◌%◌, ◌≤◌, if◌then◌else◌, ◌==◌, nat_lt}
+use Rattle.std.specs.Prelude.{List, [], ◌∷◌, ◌++◌, length, take, drop, slice_index, slice_set}
 use Rattle.gp_layout.specs.Place.{skip_of, start_of, raise_of}
 use Rattle.gp_layout.specs.Words.{words_of, tags_of, counts_word}
 use Rattle.gp_layout.specs.Spelling.{size_of}

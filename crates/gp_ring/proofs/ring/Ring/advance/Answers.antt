@@ -11,7 +11,8 @@ use Rattle.gp_ring.proofs.ring.Ring.advance.Goals as goal
 pub gather-words-requires-clause-order : goal.gather-words-requires-clause-order
 gather-words-requires-clause-order c =
     let x = c.self.inside in
-    let o : words_of x.r ≤ words_of c.in-Some.look.w = look-order x.hdrsize x.slots.items x.tags.items x.batch.items x.batch_tags.items x.zeros.items x.r x.w x.overflow x.overflow_time x.ended x.seen x.hand c.args.self.now.hand c.self.invariant c.in-Some.look c.in-Some.is in
+    let o : words_of x.r ≤ words_of c.in-Some.look.w =
+    look-order x.hdrsize x.slots.items x.tags.items x.batch.items x.batch_tags.items x.zeros.items x.r x.w x.overflow x.overflow_time x.ended x.seen x.hand c.args.self.now.hand c.self.invariant c.in-Some.look c.in-Some.is in
     omega (arith, c.words_of-from.ensures, c.words_of-to.ensures)
 
 pub invariant_of-self : goal.invariant_of-self

@@ -27,7 +27,8 @@ invariant_of-self c =
     let up = subst (λ (xs : List ℕ). IsRaised x.w s.result (length xs) (size_of (length header) (length stack))) c.deref_mut.ensures.value s.ensures.w in
     let e = subst (λ (xs : List ℕ). s.new.slots ≡ put_at (length xs) (words_of x.w % length xs) words xs) c.deref_mut.ensures.value s.ensures.slots in
     let f = subst (λ (xs : List ℕ). s.new.tags ≡ slice_set xs (tags_of x.w % length xs) 0) c.deref_mut-2.ensures.value s.ensures.tags in
-    kept-taken _ _ _ _ _ _ _ _ x.overflow _ _ _ (emit-kept x.hdrsize x.slots.items x.tags.items x.batch.items x.batch_tags.items x.zeros.items x.r x.w x.overflow x.overflow_time x.ended x.seen x.hand (found_of x.slots.items x.batch.items x.tags.items x.batch_tags.items x.hand) c.self.invariant
+    kept-taken _ _ _ _ _ _ _ _ x.overflow _ _ _ (emit-kept x.hdrsize x.slots.items x.tags.items x.batch.items x.batch_tags.items x.zeros.items x.r x.w x.overflow x.overflow_time x.ended x.seen x.hand
+    (found_of x.slots.items x.batch.items x.tags.items x.batch_tags.items x.hand) c.self.invariant
     s.result 0 x.overflow_time header stack _ _ can up
     (whole x.slots.len x.slots.items s.new.slots _ (ap length (sym c.deref_mut.ensures.value) ∙ c.deref_mut.ensures.len) (s.auto.slots ∙ ap length c.deref_mut.ensures.value) e)
     (whole x.tags.len x.tags.items s.new.tags _ (ap length (sym c.deref_mut-2.ensures.value) ∙ c.deref_mut-2.ensures.len) (s.auto.tags ∙ ap length c.deref_mut-2.ensures.value) f)) c.taken-self-inside.ensures.count
@@ -48,7 +49,8 @@ returns c =
     let up = subst (λ (xs : List ℕ). IsRaised x.w s.result (length xs) (size_of (length header) (length stack))) c.deref_mut.ensures.value s.ensures.w in
     let e = subst (λ (xs : List ℕ). s.new.slots ≡ put_at (length xs) (words_of x.w % length xs) words xs) c.deref_mut.ensures.value s.ensures.slots in
     let f = subst (λ (xs : List ℕ). s.new.tags ≡ slice_set xs (tags_of x.w % length xs) 0) c.deref_mut-2.ensures.value s.ensures.tags in
-    let emitting = emit-ring x.hdrsize x.slots.items x.tags.items x.batch.items x.batch_tags.items x.zeros.items x.r x.w x.overflow x.overflow_time x.ended x.seen x.hand (found_of x.slots.items x.batch.items x.tags.items x.batch_tags.items x.hand) c.self.invariant
+    let emitting = emit-ring x.hdrsize x.slots.items x.tags.items x.batch.items x.batch_tags.items x.zeros.items x.r x.w x.overflow x.overflow_time x.ended x.seen x.hand
+    (found_of x.slots.items x.batch.items x.tags.items x.batch_tags.items x.hand) c.self.invariant
     s.result 0 x.overflow_time header stack _ _ can up
     (whole x.slots.len x.slots.items s.new.slots _ (ap length (sym c.deref_mut.ensures.value) ∙ c.deref_mut.ensures.len) (s.auto.slots ∙ ap length c.deref_mut.ensures.value) e)
     (whole x.tags.len x.tags.items s.new.tags _ (ap length (sym c.deref_mut-2.ensures.value) ∙ c.deref_mut-2.ensures.len) (s.auto.tags ∙ ap length c.deref_mut-2.ensures.value) f)
@@ -57,7 +59,8 @@ returns c =
     let fin = ring_of x.hdrsize (take x.slots.len (s.new.slots ++ drop (length s.new.slots) x.slots.items)) (take x.tags.len (s.new.tags ++ drop (length s.new.tags) x.tags.items)) x.r s.result x.overflow x.overflow_time x.ended x.seen Nothing in
     let piece : spelled x.overflow_time header stack ≡ spelled x.overflow_time (replicate x.hdrsize 0) (old.pending ∷ []) =
     ap (λ (h : List ℕ). spelled x.overflow_time h stack) zeros ∙ ap (λ (n : ℕ). spelled x.overflow_time (replicate x.hdrsize 0) (n ∷ [])) c.count_of.ensures in
-    taken-ring x.hdrsize (take x.slots.len (s.new.slots ++ drop (length s.new.slots) x.slots.items)) (take x.tags.len (s.new.tags ++ drop (length s.new.tags) x.tags.items)) x.r s.result x.overflow x.overflow_time x.ended x.seen Nothing o2 c.taken-self-inside.ensures.count c.taken-self-inside.ensures.change
+    taken-ring x.hdrsize (take x.slots.len (s.new.slots ++ drop (length s.new.slots) x.slots.items))
+    (take x.tags.len (s.new.tags ++ drop (length s.new.tags) x.tags.items)) x.r s.result x.overflow x.overflow_time x.ended x.seen Nothing o2 c.taken-self-inside.ensures.count c.taken-self-inside.ensures.change
     ∙ ap without_loss emitting
     ∙ ap (λ (ws : List ℕ). with_nothing (emitted (without_loss old) (record { tag = 0; words = ws }))) piece
     ∙ ap (λ (v : PlainRing). with_nothing (emitted (without_loss v) (loss_piece v))) c.self.view_is
