@@ -16,13 +16,13 @@ either : {A : Type 0} (f : PlainRing → A) (b : Bool) (x y : PlainRing) (v : A)
 either f true x y v p q = p
 either f false x y v p q = q
 
-pub written-hdrsize : (ring : PlainRing) (offer : Offer) → (written ring offer).hdrsize ≡ ring.hdrsize
+written-hdrsize : (ring : PlainRing) (offer : Offer) → (written ring offer).hdrsize ≡ ring.hdrsize
 written-hdrsize ring offer =
     either (λ (r : PlainRing). r.hdrsize) (is_kept ring offer) _ _ ring.hdrsize
     (either (λ (r : PlainRing). r.hdrsize) (ring.pending == 0) _ _ ring.hdrsize refl refl)
     (either (λ (r : PlainRing). r.hdrsize) (ring.pending == 0) _ _ ring.hdrsize refl refl)
 
-pub written-seen : (ring : PlainRing) (offer : Offer) → (written ring offer).seen ≡ ring.seen
+written-seen : (ring : PlainRing) (offer : Offer) → (written ring offer).seen ≡ ring.seen
 written-seen ring offer =
     either (λ (r : PlainRing). r.seen) (is_kept ring offer) _ _ ring.seen
     (either (λ (r : PlainRing). r.seen) (ring.pending == 0) _ _ ring.seen refl refl)
@@ -50,6 +50,7 @@ may-offer ring offer count words looked d is_open fits few bound =
       },
     )
 
+-- a write adds its offer and no more words than were added
 pub after-write : (old new : PlainRing) (offer : Offer) (count words more : ℕ) (looked : Bool) → Drives old count words looked
     → new ≡ written old offer → GoesOn old new (offer ∷ []) [] → max (words_for old.hdrsize offer) (loss_size old.hdrsize) ≤ more
     → Drives new (count + 1) (words + more) looked
@@ -71,6 +72,7 @@ after-write old new offer count words more looked d e goes most =
 differ : false ≡ true → ⊥
 differ e = cc
 
+-- a new ring follows nothing
 pub when-new : (ring : PlainRing) (h len tags : ℕ) → EmptyFollows → ring ≡ empty_ring h len tags → Drives ring 0 0 false
 when-new ring h len tags law e =
     let d : Drives (empty_ring h len tags) 0 0 false = record {

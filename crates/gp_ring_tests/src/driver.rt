@@ -62,10 +62,12 @@ impl Driver {
         Some(self.ring.write(tag, time, header, stack))
     }
 
+    /// The close.
     pub fn close(&mut self) {
         self.ring.close();
     }
 
+    /// A look.
     pub fn look(&mut self) {
         self.ring.look();
         self.looked = true;
@@ -82,6 +84,7 @@ impl Driver {
         Ok(())
     }
 
+    /// A look and an act. Tells what was found, as `act` does.
     pub fn read(&mut self, page: &mut Page) -> Result<(), Unanswered> {
         self.looked = false;
         let found = self.ring.read();
