@@ -103,15 +103,22 @@ ask_gate() {
   cd -- "$room/repo" && timeout --foreground 240 rt ci
 }
 
-# Proves a crate, and builds its library or the program.
+# Proves a crate with so many jobs, and builds its library or the program. The kit keeps others out of the folders of a crate
+# and of those below it while it works, so each crate is built in copies of its own, and what it leaves goes back.
 make() {
-  cd -- "$room/repo/crates/$1" || return
-  if [ "$1" = gp_prog ]; then
+  local name=$1 jobs=$2 own=$room/own.$1 one
+  mkdir -p -- "$own/.git" "$own/crates" && cp -- "$room/repo/crates.txt" "$room/repo/HANDLES" "$own" || return
+  for one in "$room"/repo/crates/*; do
+    mkdir -- "$own/crates/${one##*/}" && cp -a -- "$one"/[!o]* "$own/crates/${one##*/}/" || return
+  done
+  for one in "${!built[@]}"; do cp -a -- "$room/out/$one" "$own/crates/$one/out" || return; done
+  cd -- "$own/crates/$name" || return
+  if [ "$name" = gp_prog ]; then
     # (without words it reads and writes nothing, and ends with status 1)
-    rt run
-    [ -e out/gp_prog ]
+    rt run --jobs "$jobs"
+    mv -- out/gp_prog "$room/gp"
   else
-    rt lib
+    rt lib --jobs "$jobs" && mkdir -p -- "$room/out/$name" && mv -- out/rlib "$room/out/$name/rlib"
   fi
 }
 
@@ -121,23 +128,32 @@ are_built() {
   for name in "$@"; do [ -n "${built[$name]:-}" ] || return; done
 }
 
-# Proves and builds the crates in $room/repo, each once, when those are built that it stands on.
+# Proves and builds the crates in $room/repo, each once, when those are built that it stands on. Those that can begin at once
+# share the processors that are free.
 build_all() {
-  local crates line name below most count at=0
-  local -A begun=()
+  local crates name below most count at=0 free left share
+  local -A begun=() jobs=()
+  local ready=()
   crates=$(crates_of "$room/repo") || stop "cannot read crates.txt"
   count=$(wc -l <<<"$crates")
   most=$(at_once)
   tell "proving and building the program, $most crates at once; this is done once, and takes some minutes"
   while :; do
+    free=$most ready=()
+    for name in "${!groups[@]}"; do free=$((free - jobs[$name])); done
     while read -r name below; do
-      [ "${#groups[@]}" -lt "$most" ] || break
-      [ -z "${begun[$name]:-}" ] && are_built $below || continue
-      begun[$name]=1
+      [ -z "${begun[$name]:-}" ] && are_built $below && ready+=("$name")
+    done <<<"$crates"
+    left=${#ready[@]}
+    for name in "${ready[@]}"; do
+      [ "$free" -gt 0 ] || break
+      share=$(((free + left - 1) / left))
+      free=$((free - share)) left=$((left - 1))
+      begun[$name]=1 jobs[$name]=$share
       at=$((at + 1))
       tell "crate $at of $count: $name"
-      start "$name" make "$name"
-    done <<<"$crates"
+      start "$name" make "$name" "$share"
+    done
     [ "${#groups[@]}" -gt 0 ] || return 0
     wait_for_one || return
   done
@@ -161,13 +177,15 @@ prepare() {
     start gate ask_gate
     wait_for_one || end_all
   fi
-  if [ -z "${built[gate]:-}" ] && ! build_all; then
+  if [ -n "${built[gate]:-}" ]; then
+    mv -- "$room/repo/crates/gp_prog/out/gp_prog" "$room/gp"
+  elif ! build_all; then
     end_all
     tail -n 20 -- "$room/log.$failed" >&2
     stop "the program could not be proved and built: the kit refused the crate $failed, or stopped"
   fi
-  [ -e "$room/repo/crates/gp_prog/out/gp_prog" ] || stop "the kit left no program"
-  take "$room/repo/crates/gp_prog/out/gp_prog" "$sum"
+  [ -e "$room/gp" ] || stop "the kit left no program"
+  take "$room/gp" "$sum"
 }
 
 # Ends what was started, and leaves nothing behind.
