@@ -16,3 +16,6 @@ pub mod Examples
 pub mod Names
 pub mod NamedThere
 pub mod Actions
+pub mod Blocks
+pub mod Runs
+pub mod NestedLoops

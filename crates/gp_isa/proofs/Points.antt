@@ -1,5 +1,5 @@
 -- The points of a statement, by what it is.
-use Rattle.std.proofs.Common.{◌≡◌, ℕ, false, refl, suc, ◌-◌, ◌+◌, ◌<◌, ◌⊎◌, List, [], ◌∷◌, ◌++◌, length, take, get_or, flat_map, sym, ap, ◌∙◌, inl, inr, arith}
+use Rattle.std.proofs.Common.{◌≡◌, ℕ, suc, ◌-◌, ◌+◌, ◌<◌, List, [], ◌∷◌, ◌++◌, length, take, get_or, flat_map, sym, ap, ◌∙◌, arith}
 use Rattle.std.proofs.lemmas.List.{take_more, flat_map_more}
 use Rattle.gp_isa.specs.declared.size.Size.{Size}
 use Rattle.gp_isa.specs.declared.statement.Stmt.{Stmt}
@@ -7,8 +7,7 @@ use Rattle.gp_isa.specs.declared.statement.What.{What}
 use Rattle.gp_isa.specs.declared.statement.What.TheVariants as what
 use Rattle.gp_isa.specs.Statement.{action, action_of, line_of}
 use Rattle.gp_isa.proofs.Actions.{action-loop, action-send, action-recv, action-lock, action-unlock, action-spawn, action-labels}
-use Rattle.gp_isa.specs.Size.{is_work}
-use Rattle.gp_isa.specs.Trace.{Point, Instruction, Labels, Send, Recv, Lock, Unlock, Spawn, is_local, point_at, repeated, points_at, points_of_body}
+use Rattle.gp_isa.specs.Trace.{Point, Instruction, Labels, Send, Recv, Lock, Unlock, Spawn, point_at, repeated, points_at, points_of_body}
 use Rattle.gp_isa.specs.kept.Sizes.{size_of}
 
 module _ (calls : ℕ → List Point) (f : ℕ) where
@@ -37,11 +36,21 @@ module _ (calls : ℕ → List Point) (f : ℕ) where
     size_of-labels w a set one is = one ∙ sym (ap (λ w. size_of (points_at calls inner f line (action w))) is ∙ ap (λ t. size_of (points_at calls inner f line t)) (action-labels set))
 
     -- the others have one shared point
-    pub size_of-shared : (w : What) (a : Size) → ((instruction : Instruction) → is_local instruction ≡ false → is_work instruction ≡ false → a ≡ size_of (point_at f line instruction ∷ [])) →
-        ((x : ℕ) × (w ≡ what.Send x)) ⊎ (((x : ℕ) × (w ≡ what.Recv x)) ⊎ (((x : ℕ) × (w ≡ what.Lock x)) ⊎ (((x : ℕ) × (w ≡ what.Unlock x)) ⊎ ((x : ℕ) × (w ≡ what.Spawn x))))) →
+    pub size_of-shared : (w v : What) (a : Size) (instruction : Instruction) → a ≡ size_of (point_at f line instruction ∷ []) → w ≡ v → points_at calls inner f line (action v) ≡ point_at f line instruction ∷ [] →
         a ≡ size_of (points_at calls inner f line (action w))
-    size_of-shared w a one (inl (x, is)) = one (Send x) refl refl ∙ sym (ap (λ w. size_of (points_at calls inner f line (action w))) is ∙ ap (λ t. size_of (points_at calls inner f line t)) (action-send x))
-    size_of-shared w a one (inr (inl (x, is))) = one (Recv x) refl refl ∙ sym (ap (λ w. size_of (points_at calls inner f line (action w))) is ∙ ap (λ t. size_of (points_at calls inner f line t)) (action-recv x))
-    size_of-shared w a one (inr (inr (inl (x, is)))) = one (Lock x) refl refl ∙ sym (ap (λ w. size_of (points_at calls inner f line (action w))) is ∙ ap (λ t. size_of (points_at calls inner f line t)) (action-lock x))
-    size_of-shared w a one (inr (inr (inr (inl (x, is))))) = one (Unlock x) refl refl ∙ sym (ap (λ w. size_of (points_at calls inner f line (action w))) is ∙ ap (λ t. size_of (points_at calls inner f line t)) (action-unlock x))
-    size_of-shared w a one (inr (inr (inr (inr (x, is))))) = one (Spawn x) refl refl ∙ sym (ap (λ w. size_of (points_at calls inner f line (action w))) is ∙ ap (λ t. size_of (points_at calls inner f line t)) (action-spawn x))
+    size_of-shared w v a instruction one is its = one ∙ sym (ap (λ w. size_of (points_at calls inner f line (action w))) is ∙ ap size_of its)
+
+    pub one_send : (x : ℕ) → points_at calls inner f line (action (what.Send x)) ≡ point_at f line (Send x) ∷ []
+    one_send x = ap (points_at calls inner f line) (action-send x)
+
+    pub one_recv : (x : ℕ) → points_at calls inner f line (action (what.Recv x)) ≡ point_at f line (Recv x) ∷ []
+    one_recv x = ap (points_at calls inner f line) (action-recv x)
+
+    pub one_lock : (x : ℕ) → points_at calls inner f line (action (what.Lock x)) ≡ point_at f line (Lock x) ∷ []
+    one_lock x = ap (points_at calls inner f line) (action-lock x)
+
+    pub one_unlock : (x : ℕ) → points_at calls inner f line (action (what.Unlock x)) ≡ point_at f line (Unlock x) ∷ []
+    one_unlock x = ap (points_at calls inner f line) (action-unlock x)
+
+    pub one_spawn : (x : ℕ) → points_at calls inner f line (action (what.Spawn x)) ≡ point_at f line (Spawn x) ∷ []
+    one_spawn x = ap (points_at calls inner f line) (action-spawn x)

@@ -8,3 +8,5 @@ pub mod Calls
 pub mod Size
 pub mod Names
 pub mod kept
+pub mod Block
+pub mod Nesting

@@ -37,7 +37,7 @@ fn mark_statement(what: &What, deep: u8, row: &mut [bool])
         What::Call { f } => row[*f as usize] = true,
         What::Loop { body, .. } => {
             if deep > 0 {
-                mark_calls(body.as_slice(), deep - 1, row);
+                mark_calls(body.get().as_slice(), deep - 1, row);
             }
         }
         What::Work { .. }

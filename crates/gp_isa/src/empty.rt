@@ -32,7 +32,7 @@ fn holds_bare_loop(what: &What, deep: u8) -> bool
     ensures { result ≡ loop_lacks (lacks_statement deep) (action what.now) }
 {
     match what {
-        What::Loop { body, .. } => is_bare(body.as_slice(), deep - 1),
+        What::Loop { body, .. } => is_bare(body.get().as_slice(), deep - 1),
         What::Work { .. }
         | What::Call { .. }
         | What::Send { .. }

@@ -125,7 +125,7 @@ fn action_fits(parts: &Parts, what: &What, deep: u8) -> bool
             if deep == 0 {
                 return false;
             }
-            statements_fit(parts, body.as_slice(), deep - 1)
+            statements_fit(parts, body.get().as_slice(), deep - 1)
         }
         What::Send { c } => (*c as usize) < parts.channels.len(),
         What::Recv { c } => (*c as usize) < parts.channels.len(),

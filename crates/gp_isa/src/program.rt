@@ -1,15 +1,22 @@
-ghost use Rattle.std.specs.Prelude.{◌≡◌, ◌<◌, length, IfOk, IfErr, IfSome, OnOk, Some};
+ghost use Rattle.std.specs.Prelude.{◌≡◌, ◌<◌, ◌≤◌, length, IfOk, IfErr, IfSome, OnOk, Some};
 ghost use Rattle.gp_isa.specs.InLimits.{AreInLimits};
 ghost use Rattle.gp_isa.specs.Checked.{main_of};
 ghost use Rattle.gp_isa.specs.Calls.{IsProgram, IsCause};
-ghost use Rattle.gp_isa.specs.Trace.{trace, is_local};
-ghost use Rattle.gp_isa.specs.Size.{depth_of, most_frames, is_work, all_pass};
+ghost use Rattle.gp_isa.specs.Trace.{trace, is_local, body_of};
+ghost use Rattle.gp_isa.specs.Block.{IsBlock};
+ghost use Rattle.gp_isa.specs.Nesting.{nesting_of};
+ghost use Rattle.gp_isa.specs.Size.{depth_of, most_frames, is_work, all_pass, local_before, first_shared};
 
 use crate::bad::Bad;
+use crate::block::Block;
 use crate::calls::{lead_rows, ranks, recursive_place};
 use crate::empty::empty_place;
+use crate::limits;
+use crate::nesting::most_nesting;
 use crate::parts::Parts;
 use crate::size::{Size, long_place, most_frames, trace_sizes};
+use crate::statement::Stmt;
+use crate::suffix::{NO_BASE, Table, fill_table};
 use std::alloc::Global;
 use std::marker::Model;
 
@@ -19,6 +26,9 @@ pub struct Program {
     parts: Parts,
     /// Of each function's trace.
     sizes: Vec<Size>,
+    /// Of each function's statements.
+    table: Table,
+    loops: u32,
     depth: u32,
 }
 
@@ -36,7 +46,7 @@ impl Model for Program {
 
     ghost view = { λ p. p.parts };
 
-    ghost invariant = { λ p. KeepsSizes p.parts p.sizes.items p.depth };
+    ghost invariant = { λ p. KeepsSizes p.parts p.sizes.items p.table.suffixes.items p.table.bases.items p.loops p.depth };
 }
 
 fn main_place(parts: &Parts) -> Option<usize>
@@ -75,6 +85,14 @@ impl Program {
         self.depth
     }
 
+    /// How many loops stand inside each other at most, in any function.
+    pub fn loops(&self) -> u32
+        ensures loops { result ≡ nesting_of self.now }
+        ensures few { result ≤ 9 }
+    {
+        self.loops
+    }
+
     /// The number of points of the trace of function `f`, at most 2^40.
     pub fn length(&self, f: u32) -> u64
         requires { f < length self.now.functions }
@@ -90,8 +108,28 @@ impl Program {
         ensures frames { result.frames ≡ most_frames (trace self.now f) }
         ensures local { result.local ≡ all_pass is_local (trace self.now f) }
         ensures work { result.work ≡ all_pass is_work (trace self.now f) }
+        ensures before { result.before ≡ local_before (trace self.now f) }
+        ensures first { result.first ≡ first_shared (trace self.now f) }
     {
         self.sizes[f as usize]
+    }
+
+    /// The statements of function `f`, and what is kept of them.
+    pub fn block(&self, f: u32) -> Block<'_>
+        ensures statements { result.statements.now ≡ body_of self.now f }
+        ensures block { IsBlock self.now result }
+    {
+        let base = self.table.bases.get(f as usize).copied().unwrap_or(NO_BASE);
+        let statements: &[Stmt] = match self.parts.functions.get(f as usize) {
+            Some(function) => function.body.as_slice(),
+            None => &[],
+        };
+        Block {
+            statements,
+            loops: limits::LOOPS,
+            base,
+            table: self.table.suffixes.as_slice(),
+        }
     }
 }
 
@@ -125,10 +163,14 @@ pub fn check(alloc: Global, parts: Parts) -> Result<Program, Bad>
             function: function as u32,
         });
     }
+    let table = fill_table(alloc, &parts, sizes.as_slice())?;
+    let loops = most_nesting(&parts);
     let depth = most_frames(sizes.as_slice());
     Ok(Program {
         parts,
         sizes,
+        table,
+        loops,
         depth,
     })
 }

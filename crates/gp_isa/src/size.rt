@@ -1,10 +1,10 @@
-ghost use Rattle.std.specs.Prelude.{◌≡◌, None, false, ◌<◌, ◌-◌, ◌+◌, ◌++◌, ◌^◌, ℕ, suc, List, ◌∷◌, [], length, map, replicate, All, IfOk, IfSome, ◌≤◌, nat_lt, slice_index_or};
+ghost use Rattle.std.specs.Prelude.{◌≡◌, None, Some, cond, min, ◌<◌, ◌-◌, ◌+◌, ◌++◌, ◌^◌, ℕ, suc, List, ◌∷◌, [], length, map, replicate, All, IfOk, IfSome, ◌≤◌, nat_lt, slice_index_or};
 ghost use Rattle.gp_isa.specs.Limits.{most_functions, most_points};
 ghost use Rattle.gp_isa.specs.InLimits.{AreInLimits};
 ghost use Rattle.gp_isa.specs.Calls.{first_from, first_recursive};
 ghost use Rattle.gp_isa.specs.Statement.{action};
-ghost use Rattle.gp_isa.specs.Trace.{Point, Instruction, Local, is_local, point_at, called_at, repeated, points_at, points_of_body, trace};
-ghost use Rattle.gp_isa.specs.Size.{most_frames_below, is_work};
+ghost use Rattle.gp_isa.specs.Trace.{Point, Instruction, Local, Labels, point_at, called_at, repeated, points_at, points_of_body, trace};
+ghost use Rattle.gp_isa.specs.Size.{most_frames_below, shared_of};
 ghost use Rattle.gp_isa.specs.kept.Sizes.{size_of, no_size, AreSizes, AreRanks, AreSomeSizes};
 
 use crate::limits;
@@ -12,6 +12,21 @@ use crate::memory::Memory;
 use crate::parts::Parts;
 use crate::statement::{Stmt, What};
 use std::alloc::Global;
+
+/// What is done at a shared point. Channels, mutexes and functions are counted from 0 in file order.
+#[derive(Clone, Copy, Debug)]
+pub enum Shared {
+    /// A send into channel `c`.
+    Send { c: u32 },
+    /// A receive from channel `c`.
+    Recv { c: u32 },
+    /// The lock of mutex `m`.
+    Lock { m: u32 },
+    /// The unlock of mutex `m`.
+    Unlock { m: u32 },
+    /// A new goroutine that runs function `f`.
+    Spawn { f: u32 },
+}
 
 /// What is kept of a list of points.
 #[derive(Clone, Copy, Debug)]
@@ -24,6 +39,10 @@ pub struct Size {
     pub local: bool,
     /// Whether all points are instructions of work.
     pub work: bool,
+    /// How many local points come before the first shared one, or in all, where all numbers above the limit are one.
+    pub before: u64,
+    /// The first shared point.
+    pub first: Option<Shared>,
 }
 
 impl Size {
@@ -35,19 +54,37 @@ impl Size {
             frames: 0,
             local: true,
             work: true,
+            before: 0,
+            first: None,
         }
     }
 
-    // A shared point, or that of a new label set, which is local.
-    fn one(local: bool) -> Size
-        ensures { (f line : ℕ) (instruction : Instruction) → is_local instruction ≡ local → is_work instruction ≡ false →
+    // The point of a new label set, which is local.
+    fn labels() -> Size
+        ensures { (f line set : ℕ) → result ≡ size_of (point_at f line (Labels set) ∷ []) }
+    {
+        Size {
+            points: 1,
+            frames: 1,
+            local: true,
+            work: false,
+            before: 1,
+            first: None,
+        }
+    }
+
+    // A shared point.
+    fn shared(first: Shared) -> Size
+        ensures { (f line : ℕ) (instruction : Instruction) → shared_of instruction ≡ Some first →
             result ≡ size_of (point_at f line instruction ∷ []) }
     {
         Size {
             points: 1,
             frames: 1,
-            local,
+            local: false,
             work: false,
+            before: 0,
+            first: Some(first),
         }
     }
 
@@ -55,12 +92,35 @@ impl Size {
     fn work(n: u32) -> Size
         ensures { (f line : ℕ) → result ≡ size_of (replicate n (point_at f line Local)) }
     {
+        if n == 0 {
+            return Size::none();
+        }
         Size {
             points: n as u64,
-            frames: if n == 0 { 0 } else { 1 },
+            frames: 1,
             local: true,
             work: true,
+            before: n as u64,
+            first: None,
         }
+    }
+
+    // The local points before the first shared one, where next ones come behind these that begin with so many.
+    fn before_next(self, next: u64) -> u64
+        ensures { result ≡ cond self.local (min (min (self.points + next) (2 ^ 64 - 1)) (most_points + 1)) self.before }
+    {
+        if self.local {
+            self.points.saturating_add(next).min(limits::POINTS + 1)
+        } else {
+            self.before
+        }
+    }
+
+    // The first shared point, where this one is the first of those behind.
+    fn first_next(self, next: Option<Shared>) -> Option<Shared>
+        ensures { result ≡ cond self.local next self.first }
+    {
+        if self.local { next } else { self.first }
     }
 
     // These points, and behind them the next ones.
@@ -75,6 +135,8 @@ impl Size {
             frames: self.frames.max(next.frames),
             local: self.local & next.local,
             work: self.work & next.work,
+            before: self.before_next(next.before),
+            first: self.first_next(next.first),
         }
     }
 
@@ -84,11 +146,16 @@ impl Size {
         ensures { (points : List Point) (f line : ℕ) → self ≡ size_of points → result ≡ size_of (map (called_at f line) points) }
     {
         Size {
-            points: self.points,
             frames: if self.points == 0 { 0 } else { self.frames + 1 },
-            local: self.local,
-            work: self.work,
+            ..self
         }
+    }
+
+    // The local points before the first shared one, where all of these, some times over, are so many.
+    fn before_times(self, points: u64) -> u64
+        ensures { result ≡ cond self.local points self.before }
+    {
+        if self.local { points } else { self.before }
     }
 
     // These points `n` times.
@@ -98,8 +165,10 @@ impl Size {
         if n == 0 {
             return Size::none();
         }
+        let points = self.points.saturating_mul(n as u64).min(limits::POINTS + 1);
         Size {
-            points: self.points.saturating_mul(n as u64).min(limits::POINTS + 1),
+            points,
+            before: self.before_times(points),
             ..self
         }
     }
@@ -121,7 +190,7 @@ fn body_size(body: &[Stmt], deep: u8, sizes: &[Size]) -> Size
 
 // The points of one statement.
 #[cycle(size)]
-fn statement_size(what: &What, deep: u8, sizes: &[Size]) -> Size
+pub fn statement_size(what: &What, deep: u8, sizes: &[Size]) -> Size
     requires { All (λ s. s.frames < 2 ^ 32 - 1) sizes.now }
     ensures { (calls : ℕ → List Point) (f line : ℕ) → AreSizes sizes.now calls →
         result ≡ size_of (points_at calls (points_of_body calls f deep) f line (action what.now)) }
@@ -133,16 +202,16 @@ fn statement_size(what: &What, deep: u8, sizes: &[Size]) -> Size
             let once = if deep == 0 {
                 Size::none()
             } else {
-                body_size(body.as_slice(), deep - 1, sizes)
+                body_size(body.get().as_slice(), deep - 1, sizes)
             };
             once.repeated(*n)
         }
-        What::Labels { .. } => Size::one(true),
-        What::Send { .. }
-        | What::Recv { .. }
-        | What::Lock { .. }
-        | What::Unlock { .. }
-        | What::Spawn { .. } => Size::one(false),
+        What::Labels { .. } => Size::labels(),
+        What::Send { c } => Size::shared(Shared::Send { c: *c }),
+        What::Recv { c } => Size::shared(Shared::Recv { c: *c }),
+        What::Lock { m } => Size::shared(Shared::Lock { m: *m }),
+        What::Unlock { m } => Size::shared(Shared::Unlock { m: *m }),
+        What::Spawn { f } => Size::shared(Shared::Spawn { f: *f }),
     }
 }
 
@@ -184,6 +253,7 @@ pub fn trace_sizes(alloc: Global, parts: &Parts, ranks: &[usize]) -> Result<Vec<
     requires ranks { AreRanks parts.now most_functions ranks.now }
     ensures len { IfOk result (λ sizes. length sizes.items ≡ length parts.now.functions) }
     ensures sizes { IfOk result (λ sizes. AreSizes sizes.items (trace parts.now)) }
+    ensures few { IfOk result (λ sizes. All (λ s. s.frames < 2 ^ 32 - 1) sizes.items) }
 {
     let mut sizes = no_sizes(alloc, parts)?;
     for rank in 0..limits::FUNCTIONS + 1 {

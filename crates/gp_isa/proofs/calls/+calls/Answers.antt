@@ -15,7 +15,7 @@ mark_statement-bounds-row-f t c =
 pub mark_statement-mark_calls-requires : goal.mark_statement-mark_calls-requires
 mark_statement-mark_calls-requires t c = (
   omega arith,
-  subst (λ body. All (λ h. h < length c.args.row.now) (calls_in (suc (c.args.deep - 1)) body)) (sym c.as_slice.ensures)
+  subst (λ body. All (λ h. h < length c.args.row.now) (calls_in (suc (c.args.deep - 1)) body)) (sym (c.as_slice.ensures ∙ c.get.ensures))
       (subst (All (λ h. h < length c.args.row.now))
       (calls_of-loop (calls_in c.args.deep) c.args.what.now c.in-Loop.n c.in-Loop.body c.in-Loop.end c.in-Loop.is ∙
       calls_in-some c.args.deep c.in-Loop.body c.if-deep-gt0.true)
@@ -55,4 +55,4 @@ mark_statement-returns-then-deep-gt0 t c =
     subst (AddsMarks c.args.row.now c.mark_calls.new.row)
     (sym (calls_of-loop (calls_in c.args.deep) c.args.what.now c.in-Loop.n c.in-Loop.body c.in-Loop.end c.in-Loop.is ∙
     calls_in-some c.args.deep c.in-Loop.body c.if-deep-gt0.true))
-    (subst (λ body. AddsMarks c.args.row.now c.mark_calls.new.row (calls_in (suc (c.args.deep - 1)) body)) c.as_slice.ensures c.mark_calls.ensures)
+    (subst (λ body. AddsMarks c.args.row.now c.mark_calls.new.row (calls_in (suc (c.args.deep - 1)) body)) (c.as_slice.ensures ∙ c.get.ensures) c.mark_calls.ensures)

@@ -11,7 +11,7 @@ is_bare-returns-then-holds_bare_loop t c =
 pub holds_bare_loop-returns-in-Loop : goal.holds_bare_loop-returns-in-Loop
 holds_bare_loop-returns-in-Loop t c =
     let one : suc (c.args.deep - 1) ≡ c.args.deep = omega arith in
-    c.is_bare.ensures ∙ ap (lacks_statement (suc (c.args.deep - 1))) c.as_slice.ensures ∙ ap (λ d. lacks_statement d c.in-Loop.body) one ∙
+    c.is_bare.ensures ∙ ap (lacks_statement (suc (c.args.deep - 1))) (c.as_slice.ensures ∙ c.get.ensures) ∙ ap (λ d. lacks_statement d c.in-Loop.body) one ∙
     sym (loop_lacks-loop (lacks_statement c.args.deep) c.args.what.now c.in-Loop.n c.in-Loop.body c.in-Loop.end c.in-Loop.is)
 
 pub is_bare-returns-then-deep-eq0 : goal.is_bare-returns-then-deep-eq0

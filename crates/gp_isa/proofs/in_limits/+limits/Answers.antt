@@ -30,4 +30,4 @@ statements_fit-loop-statement-preserved t c =
 pub action_fits-returns-else-deep-eq0 : goal.action_fits-returns-else-deep-eq0
 action_fits-returns-else-deep-eq0 t c =
     loop_fits c.args.parts.now c.args.deep c.in-Loop.n c.in-Loop.body c.in-Loop.end c.args.what.now c.in-Loop.is c.if-n-eq0.false c.if-deep-eq0.false c.statements_fit.result
-    (subst (λ body. IsTrue c.statements_fit.result ↔ AreStatements c.args.parts.now (suc (c.args.deep - 1)) body) c.as_slice.ensures c.statements_fit.ensures)
+    (subst (λ body. IsTrue c.statements_fit.result ↔ AreStatements c.args.parts.now (suc (c.args.deep - 1)) body) (c.as_slice.ensures ∙ c.get.ensures) c.statements_fit.ensures)
