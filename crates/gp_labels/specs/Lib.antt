@@ -1,0 +1,2 @@
+pub mod LabelSet
+pub mod Entry
