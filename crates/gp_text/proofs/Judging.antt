@@ -17,36 +17,20 @@ use Rattle.gp_text.specs.declared.cause.Cause.TheVariants as cause
 use Rattle.gp_text.specs.declared.error.TextError.{TextError}
 use Rattle.gp_text.specs.declared.error.TextError.TheVariants.{Refused, Memory}
 use Rattle.gp_text.specs.declared.space.Space.{Space}
-use Rattle.gp_text.specs.declared.space.Space.TheVariants.{Functions, Channels, Mutexes}
 use Rattle.gp_text.specs.declared.said.Said.{Said}
-use Rattle.gp_text.specs.declared.said.Said.TheVariants.{Header, Channel, Mutex}
-use Rattle.gp_text.specs.Line.{lines_of, said_of}
-use Rattle.gp_text.specs.Fault.{Known, known_of, names, declared_in, is_unknown, first_fault}
+use Rattle.gp_text.specs.Pieces.{lines_of}
+use Rattle.gp_text.specs.Line.{said_from}
+use Rattle.gp_text.specs.Fault.{Known, known_of, names, is_unknown, first_fault}
 use Rattle.gp_text.specs.Refused.{IsRefusal}
-use Rattle.gp_text.specs.Reading.{functions_at, channels_at, mutexes_at, parts_of, Gives, Refuses, checked, judged, program_of, IsRefusalOf}
-use Rattle.gp_text.specs.CanBuild.{CanBuild}
+use Rattle.gp_text.specs.Reading.{functions_at, channel_of, mutex_of, label_set_of, each_at, parts_of, Gives, Refuses, checked, judged, program_of, IsRefusalOf}
+use Rattle.gp_text.specs.CanBuild.{CanBuild, AreFew}
 use Rattle.gp_text.proofs.Told.{told, told_option}
-use Rattle.gp_text.proofs.InLimits.{Named, all_named, sound_of, buildable}
+use Rattle.gp_text.proofs.WordCuts.{lines_are}
+use Rattle.gp_text.proofs.InLimits.{AllDeep, Named, all_named, sound_of, buildable}
 use Rattle.gp_text.proofs.Fitting.{in_limits}
 
--- Lines declare no more names than they are.
-few_declared : (space : Space) (s : Said) → length (declared_in space s) ≤ 1
-few_declared Functions (Header name) = omega arith
-few_declared Functions s = omega arith
-few_declared Channels (Channel name capacity) = omega arith
-few_declared Channels s = omega arith
-few_declared Mutexes (Mutex name) = omega arith
-few_declared Mutexes s = omega arith
-
-few_names : (space : Space) (said : List Said) → length (names space said) ≤ length said
-few_names space [] = omega arith
-few_names space (s ∷ said) = omega (arith, length-append (declared_in space s) (names space said), few_declared space s, few_names space said)
-
-pub few_known : (known : Known) (said : List Said) → known ≡ known_of said → length said < 2 ^ 32 → (space : Space) → length (known space) < 2 ^ 32
-few_known known said is short space = let e : length (known space) ≡ length (names space said) = ap (λ (k : Known). length (k space)) is in omega (arith, few_names space said)
-
 -- the parts that are built
-pub parts_are : (fs : List Function) (cs : List ChannelDecl) (ms : List MutexDecl) (ls : List LabelSet) (known : Known) (said : List Said) → fs ≡ functions_at known 1 said → cs ≡ channels_at 1 said → ms ≡ mutexes_at 1 said → ls ≡ [] →
+pub parts_are : (fs : List Function) (cs : List ChannelDecl) (ms : List MutexDecl) (ls : List LabelSet) (known : Known) (said : List Said) → fs ≡ functions_at known 1 said → cs ≡ each_at channel_of 1 said → ms ≡ each_at mutex_of 1 said → ls ≡ each_at label_set_of 1 said →
     known ≡ known_of said
     → record { functions = fs; channels = cs; mutexes = ms; labels = ls } ≡ parts_of said
 parts_are fs cs ms ls known said f c m l k =
@@ -76,26 +60,30 @@ third_judges : (said : List Said) → first_fault [] said ≡ None → position 
 unfolding judged
 third_judges said first h = rw (first, judged, h) refl
 
-judged_of : (bytes : List ℕ) (said : List Said) → said ≡ map said_of (lines_of bytes) → program_of bytes ≡ judged said
+judged_of : (bytes : List ℕ) (said : List Said) → said ≡ said_from 0 (lines_of bytes) → program_of bytes ≡ judged said
 unfolding program_of
 judged_of bytes said is = ap judged (sym is)
 
-pub refused_first : (bytes : List ℕ) (said : List Said) (e : TextError) → said ≡ map said_of (lines_of bytes) → IsRefusal (first_fault [] said) e → IsRefusalOf (program_of bytes) e
+pub refused_first : (bytes : List ℕ) (said : List Said) (e : TextError) → said ≡ said_from 0 (lines_of bytes) → IsRefusal (first_fault [] said) e → IsRefusalOf (program_of bytes) e
 refused_first bytes said (Refused line cause) is h = judged_of bytes said is ∙ first_refuses said line cause h
 refused_first bytes said Memory is h = tt
 
-pub refused_second : (bytes : List ℕ) (said : List Said) (known : Known) (at : ℕ) → said ≡ map said_of (lines_of bytes) → first_fault [] said ≡ None → known ≡ known_of said → position (is_unknown known) said ≡ Some at →
+pub refused_second : (bytes : List ℕ) (said : List Said) (known : Known) (at : ℕ) → said ≡ said_from 0 (lines_of bytes) → first_fault [] said ≡ None → known ≡ known_of said → position (is_unknown known) said ≡ Some at →
     program_of bytes ≡ Refuses (at + 1) cause.UnknownName
 refused_second bytes said known at is first same h = judged_of bytes said is ∙ second_refuses said at first (ap (λ (k : Known). position (is_unknown k) said) (sym same) ∙ h)
 
-pub judged_third : (bytes : List ℕ) (said : List Said) (known : Known) (parts : Parts) → said ≡ map said_of (lines_of bytes) → first_fault [] said ≡ None → known ≡ known_of said → position (is_unknown known) said ≡ None → parts ≡ parts_of said →
+pub judged_third : (bytes : List ℕ) (said : List Said) (known : Known) (parts : Parts) → said ≡ said_from 0 (lines_of bytes) → first_fault [] said ≡ None → known ≡ known_of said → position (is_unknown known) said ≡ None → parts ≡ parts_of said →
     checked parts ≡ program_of bytes
 judged_third bytes said known parts is first same h built = ap checked built ∙ sym (judged_of bytes said is ∙ third_judges said first (ap (λ (k : Known). position (is_unknown k) said) (sym same) ∙ h))
 
-named_of : (bytes : List ℕ) (said : List Said) → said ≡ map said_of (lines_of bytes) → AllByRecursion Named said
-named_of bytes said is = subst (AllByRecursion Named) (sym is) (all_named (lines_of bytes))
+pub named_of : (bytes : List ℕ) (said : List Said) → said ≡ said_from 0 (lines_of bytes) → AllDeep Named 0 said
+named_of bytes said is = subst (AllDeep Named 0) (sym is) (all_named 0 (lines_of bytes) (lines_are bytes))
 
-pub can_build : (bytes : List ℕ) (said : List Said) → said ≡ map said_of (lines_of bytes) → first_fault [] said ≡ None → All CanBuild said
+-- as many names are known as there may be at most
+pub few_known : (known : Known) (said : List Said) → first_fault [] said ≡ None → known ≡ known_of said → AreFew known
+few_known known said first is = λ space. let few = (sound_of said first).few space in let e : length (known space) ≡ length (names space said) = ap (λ (k : Known). length (k space)) is in omega arith
+
+pub can_build : (bytes : List ℕ) (said : List Said) → said ≡ said_from 0 (lines_of bytes) → first_fault [] said ≡ None → All CanBuild said
 can_build bytes said is first = buildable said (named_of bytes said is) (sound_of said first)
 
 -- none passes a test
@@ -112,7 +100,7 @@ none_passes p xs h = elim (told (nat_lt (position_or_len p xs) (length xs))) [
   | inr f ↦ none_before p xs (grind (arith, nat_tests))
 ]
 
-pub limits : (bytes : List ℕ) (said : List Said) (known : Known) (parts : Parts) → said ≡ map said_of (lines_of bytes) → first_fault [] said ≡ None → known ≡ known_of said → position (is_unknown known) said ≡ None → parts ≡ parts_of said →
+pub limits : (bytes : List ℕ) (said : List Said) (known : Known) (parts : Parts) → said ≡ said_from 0 (lines_of bytes) → first_fault [] said ≡ None → known ≡ known_of said → position (is_unknown known) said ≡ None → parts ≡ parts_of said →
     AreInLimits parts
 limits bytes said known parts is first same none built =
     let usable = none_passes (is_unknown (known_of said)) said (ap (λ (k : Known). position (is_unknown k) said) (sym same) ∙ none) in

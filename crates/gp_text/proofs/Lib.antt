@@ -1,6 +1,7 @@
 pub mod Told
 pub mod Cuts
 pub mod Texts
+pub mod WordCuts
 pub mod Known
 pub mod Steps
 pub mod Behind

@@ -10,7 +10,7 @@ use Rattle.std.proofs.lemmas.Str.{IsUtf8-from_ascii, IsUtf8-from_is_utf8}
 use Rattle.std.proofs.lemmas.Str.Parse.{IsNumeralModel, numerals_by_value, tells_all_ascii_digits, parse_gives, digits_value_short}
 use Rattle.std.proofs.lemmas.Bool.Decides.{nat_tests}
 use Rattle.gp_text.proofs.Told.{told}
-use Rattle.gp_text.specs.Line.{begins_name, continues_name, has_length, is_name, leads, is_numeral}
+use Rattle.gp_text.specs.Line.{begins_name, continues_name, has_length, is_name, is_numeral}
 
 pub both_left : (a b : Bool) → (a && b) ≡ true → a ≡ true
 both_left true b h = refl
@@ -20,7 +20,7 @@ pub both_right : (a b : Bool) → (a && b) ≡ true → b ≡ true
 both_right true b h = h
 both_right false b h = absurd cc
 
-all_ascii : (p : ℕ → Bool) → ((b : ℕ) → p b ≡ true → b < 128) → (bs : List ℕ) → list_all p bs ≡ true → IsAscii bs
+pub all_ascii : (p : ℕ → Bool) → ((b : ℕ) → p b ≡ true → b < 128) → (bs : List ℕ) → list_all p bs ≡ true → IsAscii bs
 all_ascii p low [] h i = omega arith
 all_ascii p low (b ∷ bs) h zero = low b (both_left (p b) (list_all p bs) h)
 all_ascii p low (b ∷ bs) h (suc i) = all_ascii p low bs (both_right (p b) (list_all p bs) h) i
@@ -37,11 +37,11 @@ name_utf8 bs h = IsUtf8-from_ascii bs (all_ascii continues_name low_name bs (bot
 
 numeral_digits : (bs : List ℕ) → is_numeral bs ≡ true → list_all is_ascii_digit bs ≡ true
 unfolding is_numeral
-numeral_digits bs h = both_right (leads bs) (list_all is_ascii_digit bs) (both_right (has_length 20 bs) (leads bs && list_all is_ascii_digit bs) h)
+numeral_digits bs h = both_right (has_length 20 bs) (list_all is_ascii_digit bs) h
 
 numeral_length : (bs : List ℕ) → is_numeral bs ≡ true → (0 < length bs) × (length bs ≤ 20)
 unfolding is_numeral
-numeral_length bs h = let l = both_left (has_length 20 bs) (leads bs && list_all is_ascii_digit bs) h in (grind (arith, nat_tests), grind (arith, nat_tests))
+numeral_length bs h = let l = both_left (has_length 20 bs) (list_all is_ascii_digit bs) h in (grind (arith, nat_tests), grind (arith, nat_tests))
 
 pub numeral_utf8 : (bs : List ℕ) → is_numeral bs ≡ true → IsUtf8 bs
 numeral_utf8 bs h = IsUtf8-from_ascii bs (all_ascii is_ascii_digit low_digit bs (numeral_digits bs h))
@@ -50,7 +50,7 @@ same_digits : (bs : List ℕ) → list_all is_ascii_digit bs ≡ true → all_as
 same_digits [] h = refl
 same_digits (b ∷ bs) h = rw (both_left (is_ascii_digit b) (list_all is_ascii_digit bs) h, same_digits bs (both_right (is_ascii_digit b) (list_all is_ascii_digit bs) h)) refl
 
-own : IsNumeralModel (λ ds. all_ascii_digits ds ≡ true) (digits_value 10)
+pub own : IsNumeralModel (λ ds. all_ascii_digits ds ≡ true) (digits_value 10)
 own = numerals_by_value (λ ds. all_ascii_digits ds ≡ true) tells_all_ascii_digits
 
 pub numeral_parses : {E : Type 0} (bs : List ℕ) (r : Result ℕ E) → is_numeral bs ≡ true → ParsesUnsigned 128 10 bs r → r ≡ Ok (digits_value 10 bs)

@@ -1,3 +1,4 @@
+pub mod Pieces
 pub mod Line
 pub mod Fault
 pub mod Reading
@@ -6,3 +7,4 @@ pub mod Names
 pub mod Spaces
 pub mod Refused
 pub mod CanBuild
+pub mod Ended

@@ -6,27 +6,31 @@ use Rattle.gp_isa.specs.declared.parts.Parts.{Parts}
 use Rattle.gp_isa.specs.declared.parts.Function.{Function}
 use Rattle.gp_isa.specs.declared.parts.ChannelDecl.{ChannelDecl}
 use Rattle.gp_isa.specs.declared.parts.MutexDecl.{MutexDecl}
+use Rattle.gp_isa.specs.declared.parts.LabelSet.{LabelSet}
 use Rattle.gp_isa.specs.declared.statement.Stmt.{Stmt, roll-Stmt}
 use Rattle.gp_isa.specs.declared.statement.What.{What}
 use Rattle.gp_isa.specs.declared.statement.What.TheVariants as what
 use Rattle.gp_isa.specs.Checked.{main_of, first_empty}
 use Rattle.gp_isa.specs.Calls.{first_recursive, first_too_long}
+use Rattle.gp_labels.specs.LabelSet.{canonical_of}
 use Rattle.gp_text.specs.declared.cause.Cause.{Cause}
 use Rattle.gp_text.specs.declared.cause.Cause.TheVariants as cause
 use Rattle.gp_text.specs.declared.error.TextError.{TextError}
 use Rattle.gp_text.specs.declared.error.TextError.TheVariants.{Refused, Memory as OutOfMemory}
 use Rattle.gp_text.specs.declared.verb.Verb.{Verb}
-use Rattle.gp_text.specs.declared.verb.Verb.TheVariants.{Call, Spawn, Send, Recv, Lock, Unlock}
+use Rattle.gp_text.specs.declared.verb.Verb.TheVariants.{Call, Spawn, Send, Recv, Lock, Unlock, Labels}
+use Rattle.gp_text.specs.declared.said.Declared.TheVariants.{Function as AFunction, Channel, Mutex, LabelSet as ALabelSet}
 use Rattle.gp_text.specs.declared.said.Said.{Said}
-use Rattle.gp_text.specs.declared.said.Said.TheVariants.{Header, Channel, Mutex, Work, Use, Close}
-use Rattle.gp_text.specs.Line.{lines_of, said_of}
+use Rattle.gp_text.specs.declared.said.Said.TheVariants.{Declares, Loop, Work, Use, Close}
+use Rattle.gp_text.specs.Pieces.{lines_of}
+use Rattle.gp_text.specs.Line.{pair_of, said_from}
 use Rattle.gp_text.specs.Fault.{Known, known_of, space_of, first_fault, first_unknown}
 
 -- the number of a name among those of the space of a word
 abbrev pub place_of : Known → Verb → List ℕ → ℕ
 place_of known verb name = unwrap_or (position (bytes_eq name) (known (space_of verb))) 0
 
--- what a word does to the thing of a number
+-- What a word does to the thing of a number. Label sets are numbered from 1.
 abbrev pub action : Verb → ℕ → What
 action Call f = what.Call f
 action Spawn f = what.Spawn f
@@ -34,11 +38,12 @@ action Send c = what.Send c
 action Recv c = what.Recv c
 action Lock m = what.Lock m
 action Unlock m = what.Unlock m
+action Labels s = what.Labels (s + 1)
 
 abbrev pub statement : ℕ → What → Stmt
 statement line what = roll-Stmt (record { line = line; what = what })
 
--- the statement of a line, where it has one
+-- the statement of a line, where it is one without a body
 abbrev pub statement_of : Known → ℕ → Said → Option Stmt
 statement_of known line (Work n) = Some (statement line (what.Work n))
 statement_of known line (Use verb name) = Some (statement line (action verb (place_of known verb name)))
@@ -48,51 +53,78 @@ abbrev pub is_close : Said → Bool
 is_close Close = true
 is_close _ = false
 
--- the statements of lines up to the next closing brace, the first of them at a line
-unfoldable pub body_at : Known → ℕ → List Said → List Stmt
-body_at known line [] = []
-body_at known line (s ∷ after) = if is_close s then [] else option_to_list (statement_of known line s) ++ body_at known (line + 1) after
+-- Statements up to the closing brace that ends them, and its line.
+pub record Block : Type 0 where
+  pub body : List Stmt
+  pub end : ℕ
 
--- the line of the next closing brace, 0 where there is none
-unfoldable pub end_at : ℕ → List Said → ℕ
-end_at line [] = 0
-end_at line (s ∷ after) = if is_close s then line else end_at (line + 1) after
+-- the first of blocks, an empty one where there is none, and the blocks behind it
+abbrev pub first : List Block → Block
+first [] = record { body = []; end = 0 }
+first (block ∷ blocks) = block
 
--- the function that a line opens, with the lines after it
+abbrev pub others : List Block → List Block
+others [] = []
+others (block ∷ blocks) = blocks
+
+-- a statement in front of the first block
+abbrev pub in_front : Stmt → List Block → List Block
+in_front s blocks = record { body = s ∷ (first blocks).body; end = (first blocks).end } ∷ others blocks
+
+abbrev pub each_in_front : Option Stmt → List Block → List Block
+each_in_front (Some s) blocks = in_front s blocks
+each_in_front None blocks = blocks
+
+-- A line in front of lines that end these blocks, the innermost first: a brace ends one block more, which is empty so far; a
+-- loop takes the first block as its body, and is a statement of the one around it.
+abbrev pub line_in_front : Known → ℕ → Said → List Block → List Block
+line_in_front known line Close blocks = record { body = []; end = line } ∷ blocks
+line_in_front known line (Loop turns) blocks =
+    in_front (statement line (what.Loop turns (first blocks).body (first blocks).end)) (others blocks)
+line_in_front known line s blocks = each_in_front (statement_of known line s) blocks
+
+-- The blocks that lines end, the innermost first, each with what these lines have of it; the first line is at a line.
+unfoldable pub blocks_at : Known → ℕ → List Said → List Block
+blocks_at known line [] = []
+blocks_at known line (s ∷ after) = line_in_front known line s (blocks_at known (line + 1) after)
+
+-- the function that a line opens, with the lines after it, the first of whose blocks is its own
+abbrev pub function_with : List ℕ → ℕ → Block → Function
+function_with name line block = record { name = name; line = line; end = block.end; body = block.body }
+
 abbrev pub function_of : Known → ℕ → Said → List Said → Option Function
-function_of known line (Header name) after =
-    Some (record { name = name; line = line; end = end_at (line + 1) after; body = body_at known (line + 1) after })
+function_of known line (Declares name AFunction) after = Some (function_with name line (first (blocks_at known (line + 1) after)))
 function_of known line _ after = None
 
--- the channel and the mutex that a line declares
+-- the channel, the mutex and the label set that a line declares
 abbrev pub channel_of : ℕ → Said → Option ChannelDecl
-channel_of line (Channel name capacity) = Some (record { name = name; line = line; capacity = capacity })
+channel_of line (Declares name (Channel capacity)) = Some (record { name = name; line = line; capacity = capacity })
 channel_of line _ = None
 
 abbrev pub mutex_of : ℕ → Said → Option MutexDecl
-mutex_of line (Mutex name) = Some (record { name = name; line = line })
+mutex_of line (Declares name Mutex) = Some (record { name = name; line = line })
 mutex_of line _ = None
+
+abbrev pub label_set_of : ℕ → Said → Option LabelSet
+label_set_of line (Declares name (ALabelSet pairs)) = Some (record { name = name; line = line; pairs = canonical_of (map pair_of pairs) })
+label_set_of line _ = None
 
 -- what lines declare, the first of them at a line
 unfoldable pub functions_at : Known → ℕ → List Said → List Function
 functions_at known line [] = []
 functions_at known line (s ∷ after) = option_to_list (function_of known line s after) ++ functions_at known (line + 1) after
 
-unfoldable pub channels_at : ℕ → List Said → List ChannelDecl
-channels_at line [] = []
-channels_at line (s ∷ after) = option_to_list (channel_of line s) ++ channels_at (line + 1) after
-
-unfoldable pub mutexes_at : ℕ → List Said → List MutexDecl
-mutexes_at line [] = []
-mutexes_at line (s ∷ after) = option_to_list (mutex_of line s) ++ mutexes_at (line + 1) after
+unfoldable pub each_at : {X : Type 0} → (ℕ → Said → Option X) → ℕ → List Said → List X
+each_at of line [] = []
+each_at of line (s ∷ after) = option_to_list (of line s) ++ each_at of (line + 1) after
 
 -- What the lines of a file declare, each on its line, counted from 1. Names may be declared behind their use.
 abbrev pub parts_of : List Said → Parts
 parts_of said = record {
   functions = functions_at (known_of said) 1 said;
-  channels = channels_at 1 said;
-  mutexes = mutexes_at 1 said;
-  labels = [];
+  channels = each_at channel_of 1 said;
+  mutexes = each_at mutex_of 1 said;
+  labels = each_at label_set_of 1 said;
 }
 
 -- A file gives parts that are a program, or is refused.
@@ -132,7 +164,7 @@ judged said = elim (first_fault [] said) as (λ _. Reading) [
 
 -- The program whose text the bytes are, or the place and the cause of the first fault.
 unfoldable pub program_of : List ℕ → Reading
-program_of bytes = judged (map said_of (lines_of bytes))
+program_of bytes = judged (said_from 0 (lines_of bytes))
 
 -- A refusal says where and why; nothing is said of want of memory.
 abbrev pub IsRefusalOf : Reading → TextError → Type 0

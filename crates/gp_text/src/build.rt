@@ -1,53 +1,54 @@
-ghost use Rattle.std.specs.Prelude.{◌≡◌, ◌<◌, ◌≤◌, ◌+◌, ◌^◌, [], length, drop, true, All, IfOk};
-ghost use Rattle.gp_text.specs.Line.{is_name};
-ghost use Rattle.gp_text.specs.Reading.{place_of, action, statement, statement_of, is_close, body_at, end_at, function_of, channel_of, mutex_of, functions_at, channels_at, mutexes_at, parts_of};
-ghost use Rattle.gp_text.specs.Fault.{known_of};
+ghost use Rattle.std.specs.Prelude.{◌≡◌, ◌<◌, ◌≤◌, ◌+◌, ◌^◌, length, drop, All, IfOk};
+ghost use Rattle.gp_isa.specs.declared.statement.What.TheVariants as what;
+ghost use Rattle.gp_text.specs.Reading.{place_of, action, statement, statement_of, is_close, function_of, functions_at, parts_of};
+ghost use Rattle.gp_text.specs.Fault.{known_of, space_of, most_names};
 ghost use Rattle.gp_text.specs.Spaces.{kept};
 ghost use Rattle.gp_text.specs.CanBuild.{CanBuild, AreFew};
+ghost use Rattle.gp_text.specs.Ended.{IsBlock, turns_in};
 
-use crate::said::{Name, Said};
+use crate::declare::{each, text};
+use crate::said::{Declared, Name, Said};
 use crate::space::Space;
 use crate::spaces::Spaces;
 use crate::verb::Verb;
-use gp_isa::{
-    ChannelDecl, Channels, Function, Functions, Memory, MutexDecl, Mutexes, Parts, Sequence, Stmt,
-    Stmts, Text, What,
-};
-use sqlite_items::Items;
+use gp_isa::{Function, Functions, Memory, Parts, Sequence, Stmt, Stmts, What};
+use sqlite_items::{Boxed, Items};
 use std::alloc::Global;
-use std::str;
 
-// A copy of the name.
-fn text(alloc: Global, name: &Name) -> Result<Text, Memory>
-    requires { is_name name.now ≡ true }
-    ensures { IfOk result (λ text. text ≡ name.now) }
-{
-    let bytes = name.bytes();
-    Text::from_str(alloc, str::from_utf8(bytes).unwrap())
+// A block that was read: its statements, the line of the brace that ends it, 0 where none does, and the place behind it.
+#[derive(Drop)]
+struct Block {
+    body: Stmts,
+    end: u32,
+    next: usize,
 }
 
 // The number of a name, which is known.
-fn place(spaces: &Spaces, verb: Verb, name: &Name) -> u32
+fn place(spaces: &Spaces, verb: Verb, name: &Name) -> usize
     requires { AreFew (kept spaces.now) }
-    ensures { result ≡ place_of (kept spaces.now) verb name.now }
+    ensures place { result ≡ place_of (kept spaces.now) verb name.now }
+    ensures few { result < most_names (space_of verb) }
 {
-    spaces.of(Space::of(verb)).place(name.bytes()).unwrap_or(0) as u32
+    spaces.of(Space::of(verb)).place(name.bytes()).unwrap_or(0)
 }
 
-fn what(verb: Verb, at: u32) -> What
+// What a word does to the thing of a number.
+fn what(verb: Verb, at: usize) -> What
+    requires { at < most_names (space_of verb) }
     ensures { result ≡ action verb at }
 {
     match verb {
-        Verb::Call => What::Call { f: at },
-        Verb::Spawn => What::Spawn { f: at },
-        Verb::Send => What::Send { c: at },
-        Verb::Recv => What::Recv { c: at },
-        Verb::Lock => What::Lock { m: at },
-        Verb::Unlock => What::Unlock { m: at },
+        Verb::Call => What::Call { f: at as u32 },
+        Verb::Spawn => What::Spawn { f: at as u32 },
+        Verb::Send => What::Send { c: at as u32 },
+        Verb::Recv => What::Recv { c: at as u32 },
+        Verb::Lock => What::Lock { m: at as u32 },
+        Verb::Unlock => What::Unlock { m: at as u32 },
+        Verb::Labels => What::Labels { s: at as u8 + 1 },
     }
 }
 
-// The statement of a line, where it has one.
+// The statement of a line, where it is one without a body.
 fn statement(spaces: &Spaces, line: u32, said: &Said) -> Option<Stmt>
     requires can { CanBuild said.now }
     requires few { AreFew (kept spaces.now) }
@@ -65,11 +66,25 @@ fn statement(spaces: &Spaces, line: u32, said: &Said) -> Option<Stmt>
         Said::NotUtf8
         | Said::Nonsense
         | Said::Silent
-        | Said::Header { .. }
-        | Said::Channel { .. }
-        | Said::Mutex { .. }
+        | Said::Declares { .. }
+        | Said::Loop { .. }
         | Said::Close => None,
     }
+}
+
+// The loop that a line begins.
+fn loop_statement(alloc: Global, line: u32, turns: u32, block: Block) -> Result<Stmt, Memory>
+    ensures { IfOk result (λ s. s ≡ statement line (what.Loop turns block.body block.end)) }
+{
+    let Block { body, end, .. } = block;
+    Ok(Stmt {
+        line,
+        what: What::Loop {
+            n: turns,
+            body: Boxed::new(alloc, body)?,
+            end,
+        },
+    })
 }
 
 fn is_close(said: &Said) -> bool
@@ -80,47 +95,70 @@ fn is_close(said: &Said) -> bool
         Said::NotUtf8
         | Said::Nonsense
         | Said::Silent
-        | Said::Header { .. }
-        | Said::Channel { .. }
-        | Said::Mutex { .. }
+        | Said::Declares { .. }
+        | Said::Loop { .. }
         | Said::Work { .. }
         | Said::Use { .. } => false,
     }
 }
 
-// The statements from a place on, up to the next closing brace.
-fn body(alloc: Global, spaces: &Spaces, said: &[Said], from: usize) -> Result<Stmts, Memory>
+// The turns of the loop that a line begins, where it does.
+fn turns(said: &Said) -> Option<u32>
+    requires { CanBuild said.now }
+    ensures { result ≡ turns_in said.now }
+{
+    match said {
+        Said::Loop { turns } => Some(*turns as u32),
+        Said::NotUtf8
+        | Said::Nonsense
+        | Said::Silent
+        | Said::Declares { .. }
+        | Said::Work { .. }
+        | Said::Use { .. }
+        | Said::Close => None,
+    }
+}
+
+// The block that the lines from a place on end. A loop in it is read by a call of its own, and what is left of the lines is
+// read on behind that; loops stand at most eight deep.
+fn read_block(alloc: Global, spaces: &Spaces, said: &[Said], from: usize) -> Result<Block, Memory>
     requires within { from ≤ length said.now }
     requires short { length said.now < 2 ^ 32 }
     requires can { All CanBuild said.now }
     requires few { AreFew (kept spaces.now) }
-    ensures { IfOk result (λ body. body ≡ body_at (kept spaces.now) (from + 1) (drop from said.now)) }
+    ensures { IfOk result (IsBlock (kept spaces.now) said.now from) }
 {
     let mut body = Items::new(alloc);
-    for at in from..said.len() {
+    let mut at = from;
+    while at < said.len() {
         let line = &said[at];
         if is_close(line) {
-            break;
+            return Ok(Block {
+                body,
+                end: at as u32 + 1,
+                next: at + 1,
+            });
         }
-        if let Some(statement) = statement(spaces, at as u32 + 1, line) {
-            body.push(statement)?;
+        match turns(line) {
+            Some(turns) => {
+                let inner = read_block(alloc, spaces, said, at + 1)?;
+                let next = inner.next;
+                body.push(loop_statement(alloc, at as u32 + 1, turns, inner)?)?;
+                at = next;
+            }
+            None => {
+                if let Some(statement) = statement(spaces, at as u32 + 1, line) {
+                    body.push(statement)?;
+                }
+                at += 1;
+            }
         }
     }
-    Ok(body)
-}
-
-// The line of the next closing brace from a place on.
-fn end(said: &[Said], from: usize) -> u32
-    requires within { from ≤ length said.now }
-    requires short { length said.now < 2 ^ 32 }
-    ensures { result ≡ end_at (from + 1) (drop from said.now) }
-{
-    for at in from..said.len() {
-        if is_close(&said[at]) {
-            return at as u32 + 1;
-        }
-    }
-    0
+    Ok(Block {
+        body,
+        end: 0,
+        next: at,
+    })
 }
 
 // The function that a line at a place opens, where it is a header.
@@ -139,60 +177,22 @@ fn function(
     ensures { IfOk result (λ function. function ≡ function_of (kept spaces.now) (at + 1) line.now (drop (at + 1) said.now)) }
 {
     match line {
-        Said::Header { name } => Ok(Some(Function {
-            name: text(alloc, name)?,
-            line: at as u32 + 1,
-            end: end(said, at + 1),
-            body: body(alloc, spaces, said, at + 1)?,
-        })),
+        Said::Declares { name, declared } => match declared {
+            Declared::Function => {
+                let Block { body, end, .. } = read_block(alloc, spaces, said, at + 1)?;
+                Ok(Some(Function {
+                    name: text(alloc, name)?,
+                    line: at as u32 + 1,
+                    end,
+                    body,
+                }))
+            }
+            Declared::Channel { .. } | Declared::Mutex | Declared::LabelSet { .. } => Ok(None),
+        },
         Said::NotUtf8
         | Said::Nonsense
         | Said::Silent
-        | Said::Channel { .. }
-        | Said::Mutex { .. }
-        | Said::Work { .. }
-        | Said::Use { .. }
-        | Said::Close => Ok(None),
-    }
-}
-
-// The channel that a line declares, where it does.
-fn channel(alloc: Global, line: u32, said: &Said) -> Result<Option<ChannelDecl>, Memory>
-    requires { CanBuild said.now }
-    ensures { IfOk result (λ channel. channel ≡ channel_of line said.now) }
-{
-    match said {
-        Said::Channel { name, capacity } => Ok(Some(ChannelDecl {
-            name: text(alloc, name)?,
-            line,
-            capacity: *capacity as u32,
-        })),
-        Said::NotUtf8
-        | Said::Nonsense
-        | Said::Silent
-        | Said::Header { .. }
-        | Said::Mutex { .. }
-        | Said::Work { .. }
-        | Said::Use { .. }
-        | Said::Close => Ok(None),
-    }
-}
-
-// The mutex that a line declares, where it does.
-fn mutex(alloc: Global, line: u32, said: &Said) -> Result<Option<MutexDecl>, Memory>
-    requires { CanBuild said.now }
-    ensures { IfOk result (λ mutex. mutex ≡ mutex_of line said.now) }
-{
-    match said {
-        Said::Mutex { name } => Ok(Some(MutexDecl {
-            name: text(alloc, name)?,
-            line,
-        })),
-        Said::NotUtf8
-        | Said::Nonsense
-        | Said::Silent
-        | Said::Header { .. }
-        | Said::Channel { .. }
+        | Said::Loop { .. }
         | Said::Work { .. }
         | Said::Use { .. }
         | Said::Close => Ok(None),
@@ -214,45 +214,18 @@ fn functions(alloc: Global, spaces: &Spaces, said: &[Said]) -> Result<Functions,
     Ok(functions)
 }
 
-fn channels(alloc: Global, said: &[Said]) -> Result<Channels, Memory>
-    requires short { length said.now < 2 ^ 32 }
-    requires can { All CanBuild said.now }
-    ensures { IfOk result (λ channels. channels ≡ channels_at 1 said.now) }
-{
-    let mut channels = Sequence::new(alloc);
-    for (at, line) in said.iter().enumerate() {
-        if let Some(channel) = channel(alloc, at as u32 + 1, line)? {
-            channels.push(channel)?;
-        }
-    }
-    Ok(channels)
-}
-
-fn mutexes(alloc: Global, said: &[Said]) -> Result<Mutexes, Memory>
-    requires short { length said.now < 2 ^ 32 }
-    requires can { All CanBuild said.now }
-    ensures { IfOk result (λ mutexes. mutexes ≡ mutexes_at 1 said.now) }
-{
-    let mut mutexes = Sequence::new(alloc);
-    for (at, line) in said.iter().enumerate() {
-        if let Some(mutex) = mutex(alloc, at as u32 + 1, line)? {
-            mutexes.push(mutex)?;
-        }
-    }
-    Ok(mutexes)
-}
-
 /// What the lines of a file declare. The names that they use are known.
 pub(crate) fn parts(alloc: Global, spaces: &Spaces, said: &[Said]) -> Result<Parts, Memory>
     requires short { length said.now < 2 ^ 32 }
     requires can { All CanBuild said.now }
+    requires few { AreFew (kept spaces.now) }
     requires names { kept spaces.now ≡ known_of said.now }
     ensures { IfOk result (λ parts. parts ≡ parts_of said.now) }
 {
     Ok(Parts {
         functions: functions(alloc, spaces, said)?,
-        channels: channels(alloc, said)?,
-        mutexes: mutexes(alloc, said)?,
-        labels: Sequence::new(alloc),
+        channels: each(alloc, said)?,
+        mutexes: each(alloc, said)?,
+        labels: each(alloc, said)?,
     })
 }

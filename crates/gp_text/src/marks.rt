@@ -1,9 +1,9 @@
-//! What names and numbers look like.
-ghost use Rattle.std.specs.Prelude.{◌≡◌, ◌<◌, length, true, Some, IsTrue};
+//! What names, numbers and pairs look like.
+ghost use Rattle.std.specs.Prelude.{◌≡◌, ◌<◌, length, position, true, Some, IsTrue, IfSome};
 ghost use Rattle.std.specs.Str.Parse.{digits_value};
-ghost use Rattle.std.specs.List.{list_all};
+ghost use Rattle.std.specs.List.{list_all, list_any};
 ghost use Rattle.std.specs.Char.{is_ascii_digit};
-ghost use Rattle.gp_text.specs.Line.{begins_name, continues_name, has_length, is_name, leads, is_numeral, number};
+ghost use Rattle.gp_text.specs.Line.{begins_name, continues_name, has_length, is_name, is_numeral, number, is_equals, is_pair, pair_of};
 
 use gp_isa::limits;
 use std::str;
@@ -41,14 +41,6 @@ pub(crate) fn is_name(bytes: &[u8]) -> bool
     has_length(limits::NAME_BYTES, bytes) && begins_name(bytes[0]) && all_continue(bytes)
 }
 
-// Whether no 0 stands in front of another digit.
-fn leads(bytes: &[u8]) -> bool
-    requires { 0 < length bytes.now }
-    ensures { result ≡ leads bytes.now }
-{
-    bytes.len() == 1 || bytes[0] != b'0'
-}
-
 fn all_digits(bytes: &[u8]) -> bool
     ensures { result ≡ list_all is_ascii_digit bytes.now }
 {
@@ -59,7 +51,7 @@ fn all_digits(bytes: &[u8]) -> bool
 fn is_numeral(bytes: &[u8]) -> bool
     ensures { result ≡ is_numeral bytes.now }
 {
-    has_length(limits::NUMBER_DIGITS, bytes) && leads(bytes) && all_digits(bytes)
+    has_length(limits::NUMBER_DIGITS, bytes) && all_digits(bytes)
 }
 
 // The value of a number's digits.
@@ -73,7 +65,7 @@ fn value(digits: &[u8]) -> Option<u128>
     }
 }
 
-/// The number that the bytes are, as numbers are printed.
+/// The number that the bytes are.
 pub(crate) fn number(bytes: &[u8]) -> Option<u128>
     ensures { result ≡ number bytes.now }
 {
@@ -81,5 +73,41 @@ pub(crate) fn number(bytes: &[u8]) -> Option<u128>
         value(bytes)
     } else {
         None
+    }
+}
+
+fn has_equals(word: &[u8]) -> bool
+    ensures { result ≡ list_any is_equals word.now }
+{
+    word.iter().any(|b| *b == b'=')
+}
+
+/// Whether a word is a pair of a label set: a key of at least one byte, `=` and a value.
+#[tactic(auto, unfolding(crate::specs::Line::is_pair))]
+pub(crate) fn is_pair(word: &[u8]) -> bool
+    ensures { result ≡ is_pair word.now }
+{
+    match word {
+        [] => false,
+        [first, ..] => *first != b'=' && has_equals(word),
+    }
+}
+
+// The place of the first `=`.
+fn equals_place(word: &[u8]) -> Option<usize>
+    ensures place { result ≡ position is_equals word.now }
+    ensures within { IfSome result (λ at. at < length word.now) }
+{
+    word.iter().position(|b| *b == b'=')
+}
+
+/// The key and the value of a pair.
+pub(crate) fn cut_pair(word: &[u8]) -> (&[u8], &[u8])
+    ensures key { result.0.now ≡ (pair_of word.now).key }
+    ensures value { result.1.now ≡ (pair_of word.now).value }
+{
+    match equals_place(word) {
+        Some(at) => (&word[..at], &word[at + 1..]),
+        None => (word, &word[word.len()..]),
     }
 }

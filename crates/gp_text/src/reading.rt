@@ -70,11 +70,12 @@ fn checked(alloc: Global, parts: Parts) -> Result<Program, TextError>
 /// Reads a program file: the program whose text the bytes are, or the line and the cause of the first fault, each
 /// exactly where `program_of` gives it. Lines are counted from 1, and line 0 stands for the whole file.
 ///
-/// Names and words are separated by one blank each, lines end with one LF each, and the last LF may be missing. A file
-/// declares up to 256 functions (`func NAME {` to `}`), up to 1,024 channels (`chan NAME NUM`, capacities up to
-/// 65,535) and up to 1,024 mutexes (`mutex NAME`). A name is a letter or `_` with up to 63 letters, digits, `_` and
-/// `.` behind it. Statements are `work NUM`, with 1 to 4,294,967,295 instructions, and `call`, `spawn`, `send`,
-/// `recv`, `lock` and `unlock`, each with a name.
+/// Words are separated by spaces, tabs and CRs; a line whose first word begins with `#` says nothing. A file declares up to
+/// 256 functions (`func NAME {` to `}`), up to 1,024 channels (`chan NAME NUM`, capacities up to 65,535), up to 1,024 mutexes
+/// (`mutex NAME`) and up to 255 label sets (`labels NAME KEY=VALUE ..`, up to 16 pairs). A name is a letter or `_` with up to
+/// 63 letters, digits, `_` and `.` behind it; a number has one to twenty digits. Statements are `work NUM`, with 1 to
+/// 4,294,967,295 instructions, `loop NUM {` to `}`, with as many turns and up to eight deep, and `call`, `spawn`, `send`,
+/// `recv`, `lock`, `unlock` and `labels`, each with a name.
 ///
 /// Memory is taken for what the lines say, for the names and for the program; `TextError::Memory` where it is refused.
 /// The time of reading grows with the length of the file, and that of the check is told there.

@@ -4,12 +4,13 @@ ghost use Rattle.gp_text.specs.Fault.{space_of, most_names};
 use crate::verb::Verb;
 use gp_isa::limits;
 
-/// Functions, channels and mutexes have a space of names each.
+/// Functions, channels, mutexes and label sets have a space of names each.
 #[derive(Clone, Copy)]
 pub(crate) enum Space {
     Functions,
     Channels,
     Mutexes,
+    LabelSets,
 }
 
 impl Space {
@@ -21,6 +22,7 @@ impl Space {
             Verb::Call | Verb::Spawn => Space::Functions,
             Verb::Send | Verb::Recv => Space::Channels,
             Verb::Lock | Verb::Unlock => Space::Mutexes,
+            Verb::Labels => Space::LabelSets,
         }
     }
 
@@ -32,6 +34,7 @@ impl Space {
             Space::Functions => limits::FUNCTIONS,
             Space::Channels => limits::CHANNELS,
             Space::Mutexes => limits::MUTEXES,
+            Space::LabelSets => limits::LABEL_SETS,
         }
     }
 }

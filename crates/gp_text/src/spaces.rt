@@ -1,11 +1,10 @@
-ghost use Rattle.std.specs.Prelude.{◌≡◌, ◌<◌, [], length, position, OnOk, IfSome};
-ghost use Rattle.std.specs.Str.{bytes_eq};
+ghost use Rattle.std.specs.Prelude.{◌≡◌, [], OnOk};
 ghost use Rattle.gp_text.specs.declared.space.Space.{Space};
-ghost use Rattle.gp_text.specs.Fault.{known_of, is_among};
+ghost use Rattle.gp_text.specs.Fault.{known_of};
 ghost use Rattle.gp_text.specs.Spaces.{kept, with_declared};
 
 use crate::names::Names;
-use crate::said::Said;
+use crate::said::{Declared, Said};
 use crate::space::Space;
 use gp_isa::Memory;
 use std::alloc::Global;
@@ -16,6 +15,7 @@ pub(crate) struct Spaces<'a> {
     functions: Names<'a>,
     channels: Names<'a>,
     mutexes: Names<'a>,
+    label_sets: Names<'a>,
 }
 
 impl<'a> Spaces<'a> {
@@ -27,6 +27,7 @@ impl<'a> Spaces<'a> {
             functions: Names::new(alloc),
             channels: Names::new(alloc),
             mutexes: Names::new(alloc),
+            label_sets: Names::new(alloc),
         }
     }
 
@@ -38,6 +39,7 @@ impl<'a> Spaces<'a> {
             Space::Functions => &self.functions,
             Space::Channels => &self.channels,
             Space::Mutexes => &self.mutexes,
+            Space::LabelSets => &self.label_sets,
         }
     }
 
@@ -46,12 +48,16 @@ impl<'a> Spaces<'a> {
         ensures { OnOk result ((space : Space) → kept self.new space ≡ with_declared (kept self.old) said.now space) }
     {
         match said {
-            Said::Header { name } => self.functions.add(name.bytes()),
-            Said::Channel { name, .. } => self.channels.add(name.bytes()),
-            Said::Mutex { name } => self.mutexes.add(name.bytes()),
+            Said::Declares { name, declared } => match declared {
+                Declared::Function => self.functions.add(name.bytes()),
+                Declared::Channel { .. } => self.channels.add(name.bytes()),
+                Declared::Mutex => self.mutexes.add(name.bytes()),
+                Declared::LabelSet { .. } => self.label_sets.add(name.bytes()),
+            },
             Said::NotUtf8
             | Said::Nonsense
             | Said::Silent
+            | Said::Loop { .. }
             | Said::Work { .. }
             | Said::Use { .. }
             | Said::Close => Ok(()),

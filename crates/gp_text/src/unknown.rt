@@ -14,9 +14,8 @@ fn is_unknown(spaces: &Spaces, said: &Said) -> bool
         Said::NotUtf8
         | Said::Nonsense
         | Said::Silent
-        | Said::Header { .. }
-        | Said::Channel { .. }
-        | Said::Mutex { .. }
+        | Said::Declares { .. }
+        | Said::Loop { .. }
         | Said::Work { .. }
         | Said::Close => false,
     }

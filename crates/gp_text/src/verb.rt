@@ -1,4 +1,4 @@
-/// The word of a statement that names a function, a channel or a mutex.
+/// The word of a statement that names a function, a channel, a mutex or a label set.
 #[derive(Clone, Copy)]
 pub(crate) enum Verb {
     Call,
@@ -7,4 +7,5 @@ pub(crate) enum Verb {
     Recv,
     Lock,
     Unlock,
+    Labels,
 }

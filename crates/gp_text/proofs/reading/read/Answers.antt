@@ -1,14 +1,18 @@
 use Rattle.std.proofs.Common.{◌≡◌, sym, subst, ◌∙◌}
 use Rattle.std.specs.Prelude.{IfOk, IfErr}
 use Rattle.gp_text.specs.Reading.{Reading, Gives, program_of, IsRefusalOf}
+use Rattle.gp_text.specs.declared.error.TextError.TheVariants.{Memory as OutOfMemory}
 use Rattle.gp_text.specs.Spaces.{kept}
-use Rattle.gp_text.proofs.Judging.{refused_first, refused_second, judged_third, can_build, limits, passed_on}
+use Rattle.gp_text.proofs.Judging.{refused_first, refused_second, judged_third, can_build, limits, passed_on, few_known}
 use Rattle.gp_text.proofs.reading.read.Goals as goal
 
 pub returns-in_err-spaces-clause-refused : goal.returns-in_err-spaces-clause-refused
 returns-in_err-spaces-clause-refused c =
     passed_on _ c.in_err-spaces.field-0.0 (IsRefusalOf (program_of c.args.bytes.now)) c.from_residual-in_err-spaces.ensures.1
     (refused_first c.args.bytes.now c.as_slice-said.result.now c.in_err-spaces.field-0.0 (c.as_slice-said.ensures.value ∙ c.in_ok-lines.ensures.lines) c.in_err-spaces.ensures.refused)
+
+pub returns-in_err-parts-clause-refused : goal.returns-in_err-parts-clause-refused
+returns-in_err-parts-clause-refused c = passed_on _ OutOfMemory (IsRefusalOf (program_of c.args.bytes.now)) c.from_residual-in_err-parts.ensures.1 tt
 
 pub returns-in-Some-clause-refused : goal.returns-in-Some-clause-refused
 returns-in-Some-clause-refused c =
@@ -21,6 +25,9 @@ parts-requires-clause-can c = can_build c.args.bytes.now c.as_slice-said.result.
 pub checked-requires : goal.checked-requires
 checked-requires c = limits c.args.bytes.now c.as_slice-said.result.now (kept c.in_ok-spaces.spaces) _ (c.as_slice-said.ensures.value ∙ c.in_ok-lines.ensures.lines) c.in_ok-spaces.ensures.sound c.in_ok-spaces.ensures.names
     (sym c.in_default.ensures.place) c.in_ok-parts.ensures
+
+pub parts-requires-clause-few : goal.parts-requires-clause-few
+parts-requires-clause-few c = few_known (kept c.in_ok-spaces.spaces) c.as_slice-said.result.now c.in_ok-spaces.ensures.sound c.in_ok-spaces.ensures.names
 
 pub parts-requires-clause-names : goal.parts-requires-clause-names
 parts-requires-clause-names c = c.in_ok-spaces.ensures.names
