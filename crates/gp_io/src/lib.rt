@@ -15,7 +15,14 @@
 //! the system's. For [`StandardOutput`] a write that takes nothing is a fault.
 //!
 //! [`read_all`] reads a source to its end, and takes at most one byte more than its limit to know that there
-//! is more.
+//! is more. [`write_all`] writes a piece whole; where a write fails, a prefix of the piece is there.
+//!
+//! ```text
+//! write_all(out, "usage 0 1\n")        out took          faults
+//!   write("usage 0 1\n") = Ok(6)       "usage "          0
+//!   write("0 1\n")       = Ok(1)       "usage 0"         0
+//!   write(" 1\n")        = Failed      "usage 0 "        1        (a prefix of the piece, empty or not)
+//! ```
 #![tactic(auto)]
 
 mod memory;
@@ -30,4 +37,4 @@ pub use sink::Sink;
 pub use source::{Failed, Source};
 pub use store::Store;
 pub use system::{FileSource, FolderStore, StandardOutput};
-pub use whole::{ReadError, read_all};
+pub use whole::{ReadError, read_all, write_all};

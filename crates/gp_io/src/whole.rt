@@ -1,8 +1,9 @@
 ghost use Rattle.std.specs.Prelude.{◌≡◌, ◌+◌, ◌-◌, ◌<◌, ◌≤◌, ◌++◌, [], List, ℕ, length, take, drop, vec_len};
 ghost use Rattle.std.specs.Prelude.{Option, Some, IfOk, IfSome, OnOk, OnErr, IsErrOf};
-ghost use Rattle.gp_io.specs.Outside.{Rose, Takes, TakesAtMost};
+ghost use Rattle.gp_io.specs.Outside.{Rose, Takes, TakesAtMost, Appends, AppendsSome};
 ghost use Rattle.gp_io.specs.declared.whole.ReadError.TheVariants.{ReadFault, Memory};
 
+use crate::sink::Sink;
 use crate::source::{Failed, Source};
 use gp_isa::Content;
 use std::alloc::{AllocError, Global};
@@ -94,4 +95,19 @@ fn read_block<S: Source>(
     let n = source.read(&mut block[..room])?;
     bytes.extend_from_slice(&block[..n])?;
     Ok(n)
+}
+
+/// Writes a piece whole, with as many calls as the sink needs. After a call that fails it makes none: then a prefix of the
+/// piece was appended, empty or not. It takes no memory, and answers what the sink answers.
+pub fn write_all<O: Sink>(out: &mut O, piece: &[u8]) -> Result<(), Failed>
+    ensures whole { OnOk result (Appends (O.written out.old) piece.now (O.written out.new)) }
+    ensures prefix { OnErr result (AppendsSome (O.written out.old) piece.now (O.written out.new)) }
+    ensures well { OnOk result (O.faults out.new ≡ O.faults out.old) }
+    ensures failed { OnErr result (Rose (O.faults out.old) (O.faults out.new)) }
+{
+    let mut at = 0;
+    while at < piece.len() {
+        at += out.write(&piece[at..])?;
+    }
+    Ok(())
 }
