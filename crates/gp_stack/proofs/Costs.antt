@@ -1,5 +1,5 @@
 -- Moves that pass no point lower the cost.
-use Rattle.std.proofs.Common.{◌≡◌, ◌<◌, ◌≤◌, ◌+◌, ◌*◌, ℕ, zero, suc, false, List, [], ◌∷◌, length, drop, refl, ap, ◌∙◌, arith, add-one}
+use Rattle.std.proofs.Common.{◌-◌, ◌≡◌, ◌<◌, ◌≤◌, ◌+◌, ◌*◌, ℕ, zero, suc, false, List, [], ◌∷◌, length, drop, refl, ap, ◌∙◌, arith, add-one}
 use Rattle.std.proofs.lemmas.List.{drop_all}
 use Rattle.gp_isa.specs.declared.parts.Parts.{Parts}
 use Rattle.gp_isa.specs.declared.statement.Stmt.{Stmt}
@@ -12,6 +12,7 @@ use Rattle.gp_stack.specs.kept.Place.{stepped, turned}
 use Rattle.gp_stack.specs.kept.Ahead.{Does}
 use Rattle.gp_stack.specs.kept.Cost.{cost_of, cost_of_body, cost_of_call, cost_here, cost}
 use Rattle.gp_stack.proofs.Levels.{drop_at, base_false}
+use Rattle.gp_stack.proofs.Looking.{does_at}
 use Rattle.gp_stack.proofs.Moves.{moved, body_moved, loop_level, call_level, body_of_loop, body_of_call, body_turned, body_turning}
 
 abbrev inner_cost : (ℕ → ℕ) → ℕ → List Stmt → ℕ
@@ -63,6 +64,26 @@ cost_skip parts level outer a d =
     let next : cost parts (level ∷ outer) ≡ step_cost parts level a + cost parts (stepped (level ∷ outer)) = cost_next parts level outer a d in
     let some : 0 < step_cost parts level a = costs (cost_of_call parts level.calls) (inner_cost (cost_of_call parts level.calls) level.loops) a in
     omega arith
+
+cost_moved : (parts : Parts) (level : Level) (outer : List Level) (n : ℕ) → level.at + n ≤ length (body_at parts level outer) → cost parts (moved level (level.at + n) ∷ outer) + n ≤ cost parts (level ∷ outer)
+cost_moved parts level outer zero within =
+    let here : level.at + 0 ≡ level.at = omega arith in
+    let same : cost parts (moved level (level.at + 0) ∷ outer) ≡ cost parts (level ∷ outer) = ap (λ at. cost parts (moved level at ∷ outer)) here in omega arith
+cost_moved parts level outer (suc n) within =
+    let same : body_at parts (moved level (level.at + n)) outer ≡ body_at parts level outer = body_moved parts level (level.at + n) outer in
+    let there : level.at + n < length (body_at parts (moved level (level.at + n)) outer) = rw same (omega arith) in
+    let d : (a : Action) × Does (body_at parts (moved level (level.at + n)) outer) (level.at + n) a = does_at (body_at parts (moved level (level.at + n)) outer) (level.at + n) there in
+    let less : cost parts (moved level (level.at + n + 1) ∷ outer) < cost parts (moved level (level.at + n) ∷ outer) = cost_skip parts (moved level (level.at + n)) outer d.0 d.1 in
+    let next : level.at + suc n ≡ level.at + n + 1 = omega arith in
+    let step : cost parts (moved level (level.at + suc n) ∷ outer) ≡ cost parts (moved level (level.at + n + 1) ∷ outer) = ap (λ at. cost parts (moved level at ∷ outer)) next in
+    omega (arith, cost_moved parts level outer n (omega arith))
+
+-- statements that are crossed at once
+pub cost_run : (parts : Parts) (level : Level) (outer : List Level) (to : ℕ) → level.at < to → to ≤ length (body_at parts level outer) → cost parts (moved level to ∷ outer) < cost parts (level ∷ outer)
+cost_run parts level outer to some within =
+    let there : level.at + (to - level.at) ≡ to = omega arith in
+    let same : cost parts (moved level (level.at + (to - level.at)) ∷ outer) ≡ cost parts (moved level to ∷ outer) = ap (λ at. cost parts (moved level at ∷ outer)) there in
+    omega (arith, cost_moved parts level outer (to - level.at) (omega arith))
 
 loop_here : (parts : Parts) (level : Level) (k n : ℕ) (body : List Stmt) → cost_here parts (loop_level level k n body) body ≡ n * (1 + cost_of_body (cost_of_call parts level.calls) k body) + 1
 unfolding cost_here

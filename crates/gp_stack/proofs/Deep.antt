@@ -104,7 +104,7 @@ agree_list calls whole most agree inner inside loops f (s ∷ body) few =
     ap (λ xs. xs ++ flat_map (λ s. points_at calls inner f (line_of s) (action_of s)) body) (agree_at calls whole most agree inner inside loops f (line_of s) (action_of s) (omega arith)) ∙
     ap (λ xs. first ++ xs) (agree_list calls whole most agree inner inside loops f body (omega arith))
 
-agree_body : (calls whole : ℕ → List Point) (most : ℕ) → Agree calls whole most → (f deep : ℕ) (body : List Stmt) → most_frames (points_of_body whole f deep body) ≤ most + 1 → points_of_body calls f deep body ≡ points_of_body whole f deep body
+pub agree_body : (calls whole : ℕ → List Point) (most : ℕ) → Agree calls whole most → (f deep : ℕ) (body : List Stmt) → most_frames (points_of_body whole f deep body) ≤ most + 1 → points_of_body calls f deep body ≡ points_of_body whole f deep body
 agree_body calls whole most agree f zero body few = refl
 agree_body calls whole most agree f (suc deep) body few = agree_list calls whole most agree (points_of_body calls f deep) (points_of_body whole f deep) (agree_body calls whole most agree f deep) f body few
 

@@ -10,6 +10,7 @@ pub mod Shown
 pub mod Peeks
 pub mod Looking
 pub mod Working
+pub mod Firsts
 pub mod Short
 pub mod Deep
 pub mod Coming

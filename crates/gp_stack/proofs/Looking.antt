@@ -1,14 +1,17 @@
 -- Looks at statements and at the turns of a body.
-use Rattle.std.proofs.Common.{◌≡◌, ◌<◌, ◌≤◌, ◌+◌, ◌-◌, ◌*◌, true, min, ℕ, zero, suc, List, [], ◌∷◌, ◌++◌, length, drop, take, reverse, get_or, map, replicate, Option, Some, None, refl, ap, ap₂, sym, ◌∙◌, arith, subst, add-one}
+use Rattle.std.proofs.Common.{◌≡◌, ◌<◌, ◌≤◌, ◌+◌, ◌-◌, ◌*◌, Bool, min, ℕ, zero, suc, List, [], ◌∷◌, ◌++◌, length, drop, take, reverse, get_or, map, replicate, Option, Some, None, refl, ap, ap₂, sym, ◌∙◌, arith, subst}
 use Rattle.std.specs.Prelude.{slice_get}
-use Rattle.std.proofs.lemmas.List.{map-append, drop_all, drop-drop, replicate-append-replicate}
+use Rattle.std.proofs.lemmas.List.{map-append, append-nil, drop_all, drop-drop, replicate-append-replicate}
 use Rattle.gp_isa.specs.declared.parts.Parts.{Parts}
 use Rattle.gp_isa.specs.declared.statement.Stmt.{Stmt}
 use Rattle.gp_isa.specs.declared.statement.What.TheOpen.{Work, Call, Loop, Labels}
 use Rattle.gp_isa.specs.Statement.{Action, action_of, line_of}
 use Rattle.gp_isa.specs.Calls.{IsProgram}
-use Rattle.gp_isa.specs.Size.{most_frames, all_pass}
-use Rattle.gp_isa.specs.Trace.{Point, Local as LocalPoint, is_local, point_at, called_at, repeated, body_of, trace}
+use Rattle.gp_isa.specs.Size.{most_frames}
+use Rattle.gp_isa.specs.Trace.{Instruction, Point, Local as LocalPoint, is_local, point_at, points_at, points_of_body, called_at, repeated, body_of, trace}
+use Rattle.gp_isa.specs.Block.{IsRun, between}
+use Rattle.gp_isa.specs.declared.block.Run.{Run}
+use Rattle.gp_isa.proofs.Runs.{body_between}
 use Rattle.gp_stack.specs.declared.peek.Peek.{Peek}
 use Rattle.gp_stack.specs.declared.peek.Then.TheVariants.{Shared, Over}
 use Rattle.gp_stack.specs.declared.statement.Operation.{Operation}
@@ -19,14 +22,14 @@ use Rattle.gp_stack.specs.declared.body.Body.{Body}
 use Rattle.gp_stack.specs.Goroutine.{local_ahead}
 use Rattle.gp_stack.specs.Body.{StandsIn}
 use Rattle.gp_stack.specs.kept.Place.{Fit, levels, stepped}
-use Rattle.gp_stack.specs.kept.Level.{is_base, body_at, callers, called_from, left_here, left, points_of_call}
+use Rattle.gp_stack.specs.kept.Level.{is_base, body_at, body_inside, callers, called_from, left_here, left, points_of_call}
 use Rattle.gp_stack.specs.Peek.{operation_of, first_of, then_at}
 use Rattle.gp_stack.specs.kept.Looks.{steps, peek_of, points_of_action, points_of_all}
-use Rattle.gp_stack.proofs.Levels.{drop_at}
-use Rattle.gp_stack.proofs.Moves.{body_cons, body_nil, trace_call, no_function, repeated_none, left_cons, left_none, left_next}
+use Rattle.gp_stack.proofs.Levels.{drop_at, inside_does}
+use Rattle.gp_stack.proofs.Moves.{body_cons, body_nil, here_end, trace_call, no_function, repeated_none, left_cons, left_none, left_next}
 use Rattle.gp_stack.proofs.Peeks.{Sees, plus, peek_all, steps_local, peek_on, peek_stop, sees_none, sees_on, sees_stop, sees_end, peek_le, steps_called, peek_local, peek_then}
 use Rattle.gp_stack.proofs.Climbing.{around}
-use Rattle.gp_stack.proofs.Deep.{deep_enough}
+use Rattle.gp_stack.proofs.Deep.{deep_enough, agree_body}
 use Rattle.gp_stack.proofs.Stands.{does_one, does_within, next_work, next_shared, shared_point, over_ahead}
 use Rattle.gp_stack.proofs.Points.{work_left}
 
@@ -41,45 +44,71 @@ does_at body at within =
     let f : (s : Stmt) × (slice_get body at ≡ Some s) = found body at within in
     (action_of f.0, record { statement = f.0; stands = f.1; does = refl })
 
-pub points_split : (parts : Parts) (calls loops f : ℕ) (body : List Stmt) (at : ℕ) (a : Action) (d : Does body at a) →
-    points_of_all parts calls loops f (drop at body) ≡ points_of_action parts calls loops f (line_of d.statement) a ++ points_of_all parts calls loops f (drop (at + 1) body)
+-- a statement alone
+pub one_between : (parts : Parts) (calls loops f : ℕ) (body : List Stmt) (at : ℕ) (a : Action) (d : Does body at a) →
+    points_of_all parts calls loops f (between at (at + 1) body) ≡ points_of_action parts calls loops f (line_of d.statement) a
 unfolding points_of_action points_of_all
-points_split parts calls loops f body at a d =
-    let next : drop at body ≡ d.statement ∷ drop (suc at) body = drop_at body at d.statement d.stands in
-    rw (next, add-one at, body_cons (points_of_call parts calls) f loops d.statement (drop (suc at) body), d.does) refl
+one_between parts calls loops f body at a d =
+    let one : at + 1 - at ≡ 1 = omega arith in
+    rw (drop_at body at d.statement d.stands, one, body_cons (points_of_call parts calls) f loops d.statement [], d.does, body_nil (points_of_call parts calls) f loops)
+    (append-nil (points_at (points_of_call parts calls) (points_of_body (points_of_call parts calls) f loops) f (line_of d.statement) a))
 
-on_split : (parts : Parts) (calls loops f : ℕ) (body : List Stmt) (at : ℕ) (a : Action) (d : Does body at a) →
-    steps (points_of_all parts calls loops f (drop at body)) ≡ steps (points_of_action parts calls loops f (line_of d.statement) a) ++ steps (points_of_all parts calls loops f (drop (at + 1) body))
-on_split parts calls loops f body at a d =
-    ap steps (points_split parts calls loops f body at a d) ∙
-    map-append (λ point. operation_of point.instruction) (points_of_action parts calls loops f (line_of d.statement) a) (points_of_all parts calls loops f (drop (at + 1) body))
+all_split : (parts : Parts) (calls loops f : ℕ) (body : List Stmt) (at to : ℕ) → at ≤ to →
+    points_of_all parts calls loops f (drop at body) ≡ points_of_all parts calls loops f (between at to body) ++ points_of_all parts calls loops f (drop to body)
+unfolding points_of_all
+all_split parts calls loops f body at to before = body_between (points_of_call parts calls) f loops body at to before
+
+on_split : (parts : Parts) (calls loops f : ℕ) (body : List Stmt) (at to : ℕ) → at ≤ to →
+    steps (points_of_all parts calls loops f (drop at body)) ≡ steps (points_of_all parts calls loops f (between at to body)) ++ steps (points_of_all parts calls loops f (drop to body))
+on_split parts calls loops f body at to before =
+    ap steps (all_split parts calls loops f body at to before) ∙
+    map-append (λ point. operation_of point.instruction) (points_of_all parts calls loops f (between at to body)) (points_of_all parts calls loops f (drop to body))
+
+-- what the entries of a body tell of statements, with calls followed so deep as their stacks are
+pub run_whole : (parts : Parts) → IsProgram parts → (test : Instruction → Bool) (body : List Stmt) (loops calls at : ℕ) (run : Run) → IsRun parts test body loops calls at run → (f : ℕ) →
+    points_of_all parts calls loops f (between at run.to body) ≡ points_of_body (trace parts) f (suc loops) (between at run.to body)
+unfolding points_of_all
+run_whole parts program test body loops calls at run is f = agree_body (points_of_call parts calls) (trace parts) calls (deep_enough parts program calls) f (suc loops) (between at run.to body) (is.frames f)
+
+pub run_local : (parts : Parts) → IsProgram parts → (body : List Stmt) (loops calls at : ℕ) (run : Run) → IsRun parts is_local body loops calls at run → (f : ℕ) →
+    steps (points_of_all parts calls loops f (between at run.to body)) ≡ replicate run.points None
+run_local parts program body loops calls at run is f =
+    ap steps (run_whole parts program is_local body loops calls at run is f) ∙ (steps_local (points_of_body (trace parts) f (suc loops) (between at run.to body)) (is.pass f) ∙ ap (λ n. replicate n None) (is.points f))
 
 abbrev Looked : Parts → ℕ → ℕ → List Stmt → ℕ → Peek → ℕ → Type 0
 Looked parts calls loops body at seen limit =
     (f line : ℕ) (a : Action) → Does body at a → seen ≡ peek_of (steps (points_of_action parts calls loops f line a)) limit
 
+abbrev LookedOver : Parts → ℕ → ℕ → List Stmt → ℕ → ℕ → Peek → ℕ → Type 0
+LookedOver parts calls loops body at to seen limit = (f : ℕ) → seen ≡ peek_of (steps (points_of_all parts calls loops f (between at to body))) limit
+
+pub looked_one : (parts : Parts) (calls loops : ℕ) (body : List Stmt) (at limit : ℕ) (seen : Peek) → at < length body → Looked parts calls loops body at seen limit → LookedOver parts calls loops body at (at + 1) seen limit
+looked_one parts calls loops body at limit seen within looked f =
+    let d : (a : Action) × Does body at a = does_at body at within in
+    looked f (line_of d.1.statement) d.0 d.1 ∙ ap (λ points. peek_of (steps points) limit) (sym (one_between parts calls loops f body at d.0 d.1))
+
+pub looked_run : (parts : Parts) → IsProgram parts → (body : List Stmt) (loops calls at limit : ℕ) (run : Run) (seen : Peek) → IsRun parts is_local body loops calls at run → seen ≡ peek_of (replicate run.points None) limit →
+    LookedOver parts calls loops body at run.to seen limit
+looked_run parts program body loops calls at limit run seen is found f = found ∙ ap (λ xs. peek_of xs limit) (sym (run_local parts program body loops calls at run is f))
+
 abbrev SeesOn : Parts → ℕ → ℕ → List Stmt → ℕ → ℕ → ℕ → ℕ → Type 0
 SeesOn parts calls loops body from at limit local =
     (f : ℕ) → Sees (steps (points_of_all parts calls loops f (drop from body))) limit local (steps (points_of_all parts calls loops f (drop at body)))
 
-pub seen_few : (parts : Parts) (calls loops : ℕ) (body : List Stmt) (at limit local : ℕ) (seen : Peek) → at < length body → Looked parts calls loops body at seen (limit - local) → seen.local ≤ limit - local
-seen_few parts calls loops body at limit local seen within looked =
-    let d : (a : Action) × Does body at a = does_at body at within in
-    rw (looked 0 0 d.0 d.1) (peek_le (steps (points_of_action parts calls loops 0 0 d.0)) (limit - local))
+pub seen_few : (parts : Parts) (calls loops : ℕ) (body : List Stmt) (at to limit : ℕ) (seen : Peek) → LookedOver parts calls loops body at to seen limit → seen.local ≤ limit
+seen_few parts calls loops body at to limit seen looked = rw (looked 0) (peek_le (steps (points_of_all parts calls loops 0 (between at to body))) limit)
 
-pub seen_on : (parts : Parts) (calls loops : ℕ) (body : List Stmt) (from at limit local : ℕ) (seen : Peek) → at < length body → Looked parts calls loops body at seen (limit - local) → SeesOn parts calls loops body from at limit local →
-    seen.then ≡ Over → SeesOn parts calls loops body from (at + 1) limit (local + seen.local)
-seen_on parts calls loops body from at limit local seen within looked sees over f =
-    let d : (a : Action) × Does body at a = does_at body at within in
-    sees_on (steps (points_of_all parts calls loops f (drop from body))) (steps (points_of_all parts calls loops f (drop at body))) (steps (points_of_action parts calls loops f (line_of d.1.statement) d.0))
-    (steps (points_of_all parts calls loops f (drop (at + 1) body))) limit local seen (sees f) (on_split parts calls loops f body at d.0 d.1) (looked f (line_of d.1.statement) d.0 d.1) over
+pub seen_on : (parts : Parts) (calls loops : ℕ) (body : List Stmt) (from at to limit local : ℕ) (seen : Peek) → at < to → LookedOver parts calls loops body at to seen (limit - local) → SeesOn parts calls loops body from at limit local →
+    seen.then ≡ Over → SeesOn parts calls loops body from to limit (local + seen.local)
+seen_on parts calls loops body from at to limit local seen before looked sees over f =
+    sees_on (steps (points_of_all parts calls loops f (drop from body))) (steps (points_of_all parts calls loops f (drop at body))) (steps (points_of_all parts calls loops f (between at to body)))
+    (steps (points_of_all parts calls loops f (drop to body))) limit local seen (sees f) (on_split parts calls loops f body at to (omega arith)) (looked f) over
 
-pub seen_stop : (parts : Parts) (calls loops : ℕ) (body : List Stmt) (from at limit local : ℕ) (seen : Peek) → at < length body → Looked parts calls loops body at seen (limit - local) → SeesOn parts calls loops body from at limit local →
+pub seen_stop : (parts : Parts) (calls loops : ℕ) (body : List Stmt) (from at to limit local : ℕ) (seen : Peek) → at < to → LookedOver parts calls loops body at to seen (limit - local) → SeesOn parts calls loops body from at limit local →
     (seen.then ≡ Over → ⊥) → (f : ℕ) → record { local = local + seen.local; then = seen.then } ≡ peek_of (steps (points_of_all parts calls loops f (drop from body))) limit
-seen_stop parts calls loops body from at limit local seen within looked sees more f =
-    let d : (a : Action) × Does body at a = does_at body at within in
-    sees_stop (steps (points_of_all parts calls loops f (drop from body))) (steps (points_of_all parts calls loops f (drop at body))) (steps (points_of_action parts calls loops f (line_of d.1.statement) d.0))
-    (steps (points_of_all parts calls loops f (drop (at + 1) body))) limit local seen (sees f) (on_split parts calls loops f body at d.0 d.1) (looked f (line_of d.1.statement) d.0 d.1) more
+seen_stop parts calls loops body from at to limit local seen before looked sees more f =
+    sees_stop (steps (points_of_all parts calls loops f (drop from body))) (steps (points_of_all parts calls loops f (drop at body))) (steps (points_of_all parts calls loops f (between at to body)))
+    (steps (points_of_all parts calls loops f (drop to body))) limit local seen (sees f) (on_split parts calls loops f body at to (omega arith)) (looked f) more
 
 pub all_nil : (parts : Parts) (calls loops f : ℕ) → points_of_all parts calls loops f [] ≡ []
 unfolding points_of_all
@@ -178,10 +207,11 @@ unfolding points_of_action points_of_all
 action_loop parts calls zero f line n end inner some = absurd (omega arith)
 action_loop parts calls (suc loops) f line n end inner some = let same : suc loops - 1 ≡ loops = omega arith in rw same refl
 
-pub at_loop : (parts : Parts) (calls loops : ℕ) (body : List Stmt) (at limit n : ℕ) (inner : List Stmt) (seen : Peek) → (end : ℕ) × Does body at (Loop n inner end) → 0 < loops →
-    ((f : ℕ) → seen ≡ peek_of (steps (repeated n (points_of_all parts calls (loops - 1) f inner))) limit) → Looked parts calls loops body at seen limit
-at_loop parts calls loops body at limit n inner seen d some is f line =
-    known (LookedAs parts calls loops seen limit f line) body at (Loop n inner d.0) d.1 (is f ∙ ap (λ xs. peek_of (steps xs) limit) (action_loop parts calls loops f line n d.0 inner some))
+pub at_loop : (parts : Parts) (calls loops : ℕ) (body : List Stmt) (at limit n : ℕ) (inner within : List Stmt) (seen : Peek) → (end : ℕ) × Does body at (Loop n inner end) → within ≡ body_inside body at → 0 < loops →
+    ((f : ℕ) → seen ≡ peek_of (steps (repeated n (points_of_all parts calls (loops - 1) f within))) limit) → Looked parts calls loops body at seen limit
+at_loop parts calls loops body at limit n inner within seen d its some is f line =
+    known (LookedAs parts calls loops seen limit f line) body at (Loop n inner d.0) d.1 (is f ∙ ap (λ b. peek_of (steps (repeated n (points_of_all parts calls (loops - 1) f b))) limit) (its ∙ inside_does body at
+    (Loop n inner d.0) d.1) ∙ ap (λ xs. peek_of (steps xs) limit) (action_loop parts calls loops f line n d.0 inner some))
 
 action_no_call : (parts : Parts) (calls loops f line h : ℕ) → points_of_call parts calls h ≡ [] → points_of_action parts calls loops f line (Call h) ≡ []
 unfolding points_of_action
@@ -210,17 +240,12 @@ at_call parts calls loops body at limit h called seen d some same is f line =
     known (LookedAs parts calls loops seen limit f line) body at (Call h) d
     (is h ∙ (ap (λ b. peek_of (steps (points_of_all parts (calls - 1) 8 h (drop 0 b))) limit) same ∙ ap (λ xs. peek_of xs limit) (ap steps (call_points parts calls h some) ∙ sym (action_call parts calls loops f line h))))
 
--- the points of a call that are all local, with calls followed deep enough
-pub called_local : (parts : Parts) → IsProgram parts → (calls h n : ℕ) → most_frames (trace parts h) ≤ calls → all_pass is_local (trace parts h) ≡ true → n ≡ length (trace parts h) →
-    steps (points_of_call parts calls h) ≡ replicate n None
-called_local parts program calls h n few all count =
-    ap steps (deep_enough parts program calls h few) ∙ (steps_local (trace parts h) all ∙ ap (λ k. replicate k None) (sym count))
-
--- a call whose points are all local
-pub at_local_call : (parts : Parts) (calls loops : ℕ) (body : List Stmt) (at limit h n : ℕ) (seen : Peek) → Does body at (Call h) → steps (points_of_call parts calls h) ≡ replicate n None →
-    seen ≡ peek_of (replicate n None) limit → Looked parts calls loops body at seen limit
-at_local_call parts calls loops body at limit h n seen d local is f line =
-    known (LookedAs parts calls loops seen limit f line) body at (Call h) d (is ∙ ap (λ xs. peek_of xs limit) (sym (action_call parts calls loops f line h ∙ local)))
+-- a call whose function's points are known as a whole
+pub at_known : (parts : Parts) → IsProgram parts → (calls loops : ℕ) (body : List Stmt) (at limit h : ℕ) (seen : Peek) → Does body at (Call h) → most_frames (trace parts h) ≤ calls → seen ≡ peek_of (steps (trace parts h)) limit →
+    Looked parts calls loops body at seen limit
+at_known parts program calls loops body at limit h seen d few is f line =
+    known (LookedAs parts calls loops seen limit f line) body at (Call h) d
+    (is ∙ ap (λ xs. peek_of xs limit) (ap steps (sym (deep_enough parts program calls h few)) ∙ sym (action_call parts calls loops f line h)))
 
 -- what is left of a level: the rest of its statements, and then its turns
 abbrev of_level : Parts → Level → List Stmt → List Point
@@ -236,6 +261,9 @@ pub level_stop : (parts : Parts) (level : Level) (body other : List Stmt) (limit
 level_stop parts level body other limit first same is more =
     rw (← same, level_split parts level body)
     (is level.function ∙ sym (peek_stop (steps (of_level parts level (drop level.at body))) (steps (repeated level.turns (of_level parts level body))) limit (λ e. more (ap (λ p. p.then) (is level.function) ∙ e))))
+
+pub level_over : (parts : Parts) (level : Level) (body other : List Stmt) (limit : ℕ) → body ≡ other → level.turns ≡ 0 → length body ≤ level.at → record { local = 0; then = Over } ≡ peek_of (steps (left_here parts level other)) limit
+level_over parts level body other limit same none past = rw (← same, here_end parts level body past, none) refl
 
 pub level_on : (parts : Parts) (level : Level) (body other : List Stmt) (limit : ℕ) (first again : Peek) → body ≡ other → ((f : ℕ) → first ≡ peek_of (steps (points_of_all parts level.calls level.loops f (drop level.at body))) limit) →
     first.then ≡ Over → ((f : ℕ) → again ≡ peek_of (steps (repeated level.turns (points_of_all parts level.calls level.loops f body))) (limit - first.local)) →
@@ -291,8 +319,8 @@ pub outer_end : (parts : Parts) (xs : List (Option Operation)) (items : List Lev
 outer_end parts xs items k limit local none sees =
     sees_end xs limit local (subst (λ ls. Sees xs limit local (steps ls)) (ap (λ n. left parts (reverse (take n items))) none ∙ left_none parts) sees)
 
-pub fit_inner : (most k : ℕ) (items : List Level) (o : Level) → 0 < k → k ≤ length items → o ≡ get_or items (k - 1) o → Fit most (reverse (take k items)) → Fit most (o ∷ reverse (take (k - 1) items))
-fit_inner most k items o some within is fit = subst (Fit most) (around items k o some within is) fit
+pub fit_inner : (parts : Parts) (most k : ℕ) (items : List Level) (o : Level) → 0 < k → k ≤ length items → o ≡ get_or items (k - 1) o → Fit parts most (reverse (take k items)) → Fit parts most (o ∷ reverse (take (k - 1) items))
+fit_inner parts most k items o some within is fit = subst (Fit parts most) (around items k o some within is) fit
 
 pub past_stop : (xs ys : List (Option Operation)) (limit : ℕ) (first : Peek) → (first.then ≡ Over → ⊥) → first ≡ peek_of xs limit → first ≡ peek_of (xs ++ ys) limit
 past_stop xs ys limit first more is = is ∙ sym (peek_stop xs ys limit (λ e. more (ap (λ p. p.then) is ∙ e)))

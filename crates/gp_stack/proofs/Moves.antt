@@ -10,6 +10,8 @@ use Rattle.gp_isa.specs.declared.statement.What.TheOpen.{Call, Loop}
 use Rattle.gp_isa.specs.Statement.{Action, action_of, line_of, most_bodies}
 use Rattle.gp_isa.specs.Trace.{Point, called_at, repeated, points_at, points_of_body, body_of, trace_within, trace}
 use Rattle.gp_stack.specs.declared.level.Level.{Level}
+use Rattle.gp_isa.specs.Block.{between}
+use Rattle.gp_isa.proofs.Runs.{body_between}
 use Rattle.gp_stack.specs.kept.Level.{is_base, body_inside, line_at, body_at, frame_of, callers, called_from, points_of_call, points_of_statements, left_here, left}
 use Rattle.gp_stack.specs.kept.Place.{stepped, turned}
 use Rattle.gp_stack.specs.kept.Ahead.{Does}
@@ -56,6 +58,20 @@ unfolding left
 left_next parts level outer a d =
     rw (here_next parts level (body_at parts level outer) a d, body_moved parts level (level.at + 1) outer)
     (regrouped (called_from (callers parts (is_base level) outer)) (added parts level (line_of d.statement) a) (left_here parts (moved level (level.at + 1)) (body_at parts level outer)) (left parts outer))
+
+-- statements of a level up to another one, and then the others
+here_run : (parts : Parts) (level : Level) (body : List Stmt) (to : ℕ) → level.at ≤ to → left_here parts level body ≡ points_of_statements parts level (between level.at to body) ++ left_here parts (moved level to) body
+unfolding left_here
+here_run parts level body to before =
+    ap (λ points. points ++ repeated level.turns (points_of_statements parts level body)) (body_between (points_of_call parts level.calls) level.function level.loops body level.at to before) ∙
+    append_assoc (points_of_statements parts level (between level.at to body)) (points_of_statements parts level (drop to body)) (repeated level.turns (points_of_statements parts level body))
+
+pub left_run : (parts : Parts) (level : Level) (outer : List Level) (to : ℕ) → level.at ≤ to → left parts (level ∷ outer) ≡ map (called_from (callers parts (is_base level) outer))
+    (points_of_statements parts level (between level.at to (body_at parts level outer))) ++ left parts (moved level to ∷ outer)
+unfolding left
+left_run parts level outer to before =
+    rw (here_run parts level (body_at parts level outer) to before, body_moved parts level to outer)
+    (regrouped (called_from (callers parts (is_base level) outer)) (points_of_statements parts level (between level.at to (body_at parts level outer))) (left_here parts (moved level to) (body_at parts level outer)) (left parts outer))
 
 -- the levels with the innermost set apart
 pub left_cons : (parts : Parts) (level : Level) (outer : List Level) → left parts (level ∷ outer) ≡ map (called_from (callers parts (is_base level) outer)) (left_here parts level (body_at parts level outer)) ++ left parts outer

@@ -6,20 +6,16 @@ use Rattle.std.proofs.lemmas.Bool.{and_parts, and_from}
 use Rattle.std.proofs.lemmas.List.{append_assoc, append-nil, length-map, map-append}
 use Rattle.gp_isa.specs.declared.frame.Frame.{Frame}
 use Rattle.gp_isa.specs.declared.parts.Parts.{Parts}
-use Rattle.gp_isa.specs.Statement.{line_of}
-use Rattle.gp_isa.specs.Calls.{IsProgram}
-use Rattle.gp_isa.specs.Size.{most_frames, is_work, all_pass}
+use Rattle.gp_isa.specs.Size.{is_work, all_pass}
 use Rattle.gp_isa.specs.declared.statement.Stmt.{Stmt}
-use Rattle.gp_isa.specs.Trace.{Instruction, Local, Labels, Send, Recv, Lock, Unlock, Spawn, Point, called_at, repeated, trace}
+use Rattle.gp_isa.specs.Block.{between}
+use Rattle.gp_isa.specs.Trace.{Instruction, Local, Labels, Send, Recv, Lock, Unlock, Spawn, Point, called_at, repeated}
 use Rattle.gp_isa.proofs.Sizes.{all_pass-append, all_pass-called}
 use Rattle.gp_stack.specs.declared.level.Level.{Level}
 use Rattle.gp_stack.specs.Goroutine.{set_after, set_after_all}
-use Rattle.gp_stack.specs.kept.Level.{is_base, body_at, callers, called_from, points_of_call, points_of_statements, left_here, left}
-use Rattle.gp_stack.specs.kept.Looks.{points_of_action}
-use Rattle.gp_stack.specs.kept.Passing.{WorkBefore, Passes, AreWork, IsWorkStatement, IsWorkTurn}
-use Rattle.gp_stack.specs.kept.Place.{stepped}
-use Rattle.gp_stack.proofs.Deep.{deep_enough}
-use Rattle.gp_stack.proofs.Moves.{added, left_next, left_cons, here_end, body_turning}
+use Rattle.gp_stack.specs.kept.Level.{is_base, body_at, callers, called_from, points_of_statements, left_here, left}
+use Rattle.gp_stack.specs.kept.Passing.{WorkBefore, Passes, AreWork, IsWorkRun, IsWorkTurn}
+use Rattle.gp_stack.proofs.Moves.{left_run, left_cons, here_end, body_turning}
 
 -- where no point is passed
 pub work_none : (points : List Point) → WorkBefore points points 0
@@ -98,19 +94,12 @@ passes_turns parts level outer n k r turn split =
     work_piece (left parts (level ∷ outer)) (called (repeated k points)) (left parts (record level { turns = r } ∷ outer)) (k * n) whole
     (work_called_from (callers parts (is_base level) outer) (repeated k points) (k * n) (work_times points k n turn.work))
 
--- a statement whose points are work is passed whole
-pub passes_statement : (parts : Parts) (level : Level) (outer : List Level) (n : ℕ) → IsWorkStatement parts level outer n → Passes parts (level ∷ outer) (stepped (level ∷ outer)) n
-unfolding points_of_action
-passes_statement parts level outer n here =
-    let points : List Point = added parts level (line_of here.stands.statement) here.action in
-    work_piece (left parts (level ∷ outer)) (map (called_from (callers parts (is_base level) outer)) points) (left parts (stepped (level ∷ outer))) n (left_next parts level outer here.action here.stands)
-    (work_called_from (callers parts (is_base level) outer) points n here.work)
-
--- the points of a call, with calls followed deep enough
-pub called_work : (parts : Parts) → IsProgram parts → (calls f n : ℕ) → most_frames (trace parts f) ≤ calls → all_pass is_work (trace parts f) ≡ true → n ≡ length (trace parts f) →
-    AreWork (points_of_call parts calls f) n
-called_work parts program calls f n few all count =
-    subst (λ points. AreWork points n) (sym (deep_enough parts program calls f few)) (record { count = sym count; work = all })
+-- statements whose points are work are passed at once
+pub passes_run : (parts : Parts) (level : Level) (outer : List Level) (to n : ℕ) → IsWorkRun parts level outer to n → Passes parts (level ∷ outer) (record level { at = to } ∷ outer) n
+passes_run parts level outer to n run =
+    let points : List Point = points_of_statements parts level (between level.at to (body_at parts level outer)) in
+    work_piece (left parts (level ∷ outer)) (map (called_from (callers parts (is_base level) outer)) points) (left parts (record level { at = to } ∷ outer)) n (left_run parts level outer to (omega (arith, run.some)))
+    (work_called_from (callers parts (is_base level) outer) points n run.work)
 
 -- points of work change no labels
 keeps_labels : (set : ℕ) (i : Instruction) → is_work i ≡ true → set_after set i ≡ set

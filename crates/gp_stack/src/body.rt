@@ -15,14 +15,14 @@ use crate::peek::{Peek, Then, look_local};
 use crate::place::Place;
 use crate::record::{Record, Stack};
 use crate::statement::Ahead;
-use gp_isa::limits::{GOROUTINE_FRAMES, LOOPS};
+use gp_isa::limits::GOROUTINE_FRAMES;
 use gp_isa::{Memory, Program};
 use std::alloc::Global;
 
 /// Where a goroutine stands in a program, told by levels and the turns of its loops.
 ///
-/// A body has room for the frames of one program, nine levels of 16 bytes each, and each call that takes a program
-/// has to be given that one.
+/// A body has room for the frames of one program, each with a level of 16 bytes and one for each loop that stands inside
+/// another in some function, and each call that takes a program has to be given that one.
 #[derive(Drop)]
 pub struct Body {
     start: u32,
@@ -50,7 +50,8 @@ impl Body {
         ensures { IfOk result (λ body. HasRoom program.now body) }
     {
         let most = most_calls(program);
-        let levels = (LOOPS as usize + 1) * most as usize + LOOPS as usize;
+        let loops = program.loops() as usize;
+        let levels = (loops + 1) * most as usize + loops;
         Ok(Body {
             start: 0,
             set: 0,
@@ -138,12 +139,15 @@ impl Body {
         ensures local { result.local ≡ min limit (ahead_at program.now (progress_of self.now)) }
         ensures then { let p = progress_of self.now in result.then ≡ then_at (trace program.now p.start) (p.count + result.local) }
     {
-        match self.place.ahead(program) {
+        let here = self.place.here(program);
+        match self.place.ahead_in(program, &here) {
             Ahead::Work(n) => {
                 let first = look_local((n - self.passed) as u64, limit);
-                self.place.look_past(program, first, limit)
+                self.place.look_past(program, &here, first, limit)
             }
-            Ahead::Labels(_) => self.place.look_past(program, look_local(1, limit), limit),
+            Ahead::Labels(_) => self
+                .place
+                .look_past(program, &here, look_local(1, limit), limit),
             Ahead::Shared(operation) => Peek {
                 local: 0,
                 then: Then::Shared(operation),
@@ -195,7 +199,9 @@ impl Body {
         if max == 0 {
             return Ok(Stack::new(alloc));
         }
-        let mut frames = Vec::new(alloc);
+        // (no level has more than one frame)
+        let levels = self.place.outer.len() + 1;
+        let mut frames = Vec::with_capacity(alloc, levels.min(max as usize))?;
         frames.push(leaf(program, &self.place))?;
         let mut climb = Climb::new(&self.place);
         while frames.len() < max as usize {

@@ -4,7 +4,7 @@ ghost use Rattle.gp_isa.specs.declared.parts.Parts.{Parts};
 ghost use Rattle.gp_stack.specs.kept.Climb.{frames_left};
 ghost use Rattle.gp_stack.specs.Word.{word_of};
 
-use crate::level::{Level, body, line};
+use crate::level::{Level, block, line};
 use crate::place::Place;
 use gp_isa::limits::LOOPS;
 use gp_isa::{Frame, Program};
@@ -61,10 +61,10 @@ fn caller(program: &Program, place: &Place, level: Level, around: usize) -> Fram
     requires { around ≤ vec_len place.now.outer }
     ensures { result ≡ frame_of program.now level (reverse (take around place.now.outer.items)) }
 {
-    let body = body(program.parts(), level, &place.outer.as_slice()[..around]);
+    let here = block(program, level, &place.outer.as_slice()[..around]);
     Frame {
         function: level.function as u32,
-        line: line(body, level.at.saturating_sub(1)),
+        line: line(here.statements, level.at.saturating_sub(1)),
     }
 }
 
@@ -72,9 +72,9 @@ fn caller(program: &Program, place: &Place, level: Level, around: usize) -> Fram
 pub(crate) fn leaf(program: &Program, place: &Place) -> Frame
     ensures { result ≡ leaf_of program.now place.now.top (reverse place.now.outer.items) }
 {
-    let body = body(program.parts(), place.top, place.outer.as_slice());
+    let here = block(program, place.top, place.outer.as_slice());
     Frame {
         function: place.top.function as u32,
-        line: line(body, place.top.at),
+        line: line(here.statements, place.top.at),
     }
 }

@@ -1,14 +1,13 @@
 ghost use Rattle.std.specs.Prelude.{◌≡◌, reverse};
-ghost use Rattle.gp_isa.specs.Trace.{body_of};
-ghost use Rattle.gp_stack.specs.kept.Level.{body_at, body_inside, line_at};
+ghost use Rattle.gp_isa.specs.Block.{IsBlock};
+ghost use Rattle.gp_stack.specs.kept.Level.{body_at, line_at};
 
-use crate::statement::{Ahead, statement_at};
 use gp_isa::limits::LOOPS;
-use gp_isa::{Parts, Stmt};
+use gp_isa::{Block, Program, Stmt};
 
 /// A body of statements that a goroutine is in: that of a function, or that of a loop in the body around it.
 ///
-/// A level is kept small, at 16 bytes, since a goroutine has nine of them for each frame.
+/// A level is kept small, at 16 bytes, since a goroutine has one for each frame and for each of its loops.
 #[derive(Clone, Copy)]
 pub(crate) struct Level {
     /// The next statement of the body. Of a level around another one it is the statement behind the call or loop
@@ -24,30 +23,6 @@ pub(crate) struct Level {
     pub(crate) loops: u8,
 }
 
-/// The statements of function `f`.
-pub(crate) fn function_body(parts: &Parts, f: u8) -> &[Stmt]
-    ensures { result.now ≡ body_of parts.now f }
-{
-    match parts.functions.get(f as usize) {
-        Some(function) => function.body.as_slice(),
-        None => &[],
-    }
-}
-
-/// The body of the loop that is statement `at`.
-fn loop_body(body: &[Stmt], at: usize) -> &[Stmt]
-    ensures { result.now ≡ body_inside body.now at }
-{
-    match statement_at(body, at) {
-        Ahead::Loop(_, inner) => inner,
-        Ahead::End => &[],
-        Ahead::Work(_) => &[],
-        Ahead::Labels(_) => &[],
-        Ahead::Call(_) => &[],
-        Ahead::Shared(_) => &[],
-    }
-}
-
 /// The line of statement `at`.
 pub(crate) fn line(body: &[Stmt], at: usize) -> u32
     ensures { result ≡ line_at body.now at }
@@ -58,17 +33,30 @@ pub(crate) fn line(body: &[Stmt], at: usize) -> u32
     }
 }
 
-/// The statements of a level. `outer` are the levels around it, the outermost first.
-pub(crate) fn body<'a>(parts: &'a Parts, level: Level, outer: &[Level]) -> &'a [Stmt]
-    ensures { result.now ≡ body_at parts.now level (reverse outer.now) }
+/// The statements of a level, and what the program keeps of them. `outer` are the levels around it, the outermost first.
+pub(crate) fn block<'a>(program: &'a Program, level: Level, outer: &[Level]) -> Block<'a>
+    ensures statements { result.statements.now ≡ body_at program.now level (reverse outer.now) }
+    ensures block { IsBlock program.now result }
+{
+    // (mostly it is the body of a function, and nothing around it is asked for)
+    if level.loops == LOOPS {
+        return program.block(level.function as u32);
+    }
+    nested_block(program, level, outer)
+}
+
+/// The same, found in the bodies around it.
+fn nested_block<'a>(program: &'a Program, level: Level, outer: &[Level]) -> Block<'a>
+    ensures statements { result.statements.now ≡ body_at program.now level (reverse outer.now) }
+    ensures block { IsBlock program.now result }
 {
     match outer.split_last() {
-        None => function_body(parts, level.function),
+        None => program.block(level.function as u32),
         Some((around, outer)) => {
             if level.loops == LOOPS {
-                function_body(parts, level.function)
+                program.block(level.function as u32)
             } else {
-                loop_body(body(parts, *around, outer), around.at.saturating_sub(1))
+                nested_block(program, *around, outer).inside(around.at.saturating_sub(1))
             }
         }
     }

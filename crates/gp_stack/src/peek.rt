@@ -1,18 +1,19 @@
-ghost use Rattle.std.specs.Prelude.{◌≡◌, ◌+◌, ◌*◌, ◌≤◌, ◌<◌, ◌^◌, ℕ, drop, reverse, replicate, None, [], IfSome};
+ghost use Rattle.std.specs.Prelude.{◌≡◌, ◌+◌, ◌*◌, ◌≤◌, ◌<◌, ◌^◌, ℕ, drop, reverse, replicate, length, None, [], List};
 ghost use Rattle.std.specs.Bool.{OnTrue, OnFalse};
 ghost use Rattle.gp_isa.specs.Statement.{Action};
 ghost use Rattle.gp_isa.specs.Limits.{most_loops};
-ghost use Rattle.gp_isa.specs.Trace.{repeated};
+ghost use Rattle.gp_isa.specs.Block.{IsBlock, between};
+ghost use Rattle.gp_isa.specs.Size.{local_before, first_shared};
+ghost use Rattle.gp_isa.specs.Trace.{Point, repeated};
 ghost use Rattle.gp_stack.specs.kept.Ahead.{Does};
 ghost use Rattle.gp_stack.specs.kept.Level.{body_at, left_here, points_of_call};
 ghost use Rattle.gp_stack.specs.declared.peek.Then.TheVariants.{Over};
-ghost use Rattle.gp_stack.specs.kept.Passing.{AreWork};
-ghost use Rattle.gp_stack.specs.kept.Looks.{peek_of, steps, points_of_action, points_of_all};
+ghost use Rattle.gp_stack.specs.kept.Looks.{peek_of, steps, operation_as, points_of_action, points_of_all};
 
-use crate::level::{Level, body, function_body};
+use crate::level::{Level, block};
 use crate::statement::{Ahead, Operation, statement_at};
 use gp_isa::limits::LOOPS;
-use gp_isa::{Program, Stmt};
+use gp_isa::{Block, Program, Shared, Size};
 
 /// What comes behind local points.
 #[derive(Clone, Copy, Debug, PartialEq, Eq)]
@@ -64,37 +65,44 @@ pub(crate) fn look_local(n: u64, limit: u64) -> Peek
     }
 }
 
-/// How many points a call of function `h` has where all are local, with calls followed so deep.
-fn local_call(program: &Program, calls: u16, h: u32) -> Option<u64>
-    ensures { IfSome result (λ n. steps (points_of_call program.now calls h) ≡ replicate n None) }
+/// An operation, as the program tells it.
+fn operation(shared: Shared) -> Operation
+    ensures { result ≡ operation_as shared }
 {
-    if h as usize >= program.parts().functions.len() {
-        return None;
+    match shared {
+        Shared::Send { c } => Operation::Send { c },
+        Shared::Recv { c } => Operation::Recv { c },
+        Shared::Lock { m } => Operation::Lock { m },
+        Shared::Unlock { m } => Operation::Unlock { m },
+        Shared::Spawn { f } => Operation::Spawn { f },
     }
-    let size = program.size(h);
-    // (calls are followed as deep as the stacks are, wherever a body is)
-    if size.frames > calls as u32 {
-        return None;
-    }
-    if size.local { Some(size.points) } else { None }
 }
 
-/// How many points a call of function `f` has where all are work and at most `most`, with calls followed so deep.
-fn work_call(program: &Program, calls: u16, f: u32, most: u64) -> Option<u64>
-    ensures work { IfSome result (AreWork (points_of_call program.now calls f)) }
-    ensures few { IfSome result (λ n. n ≤ most) }
+/// Points of which the program tells the first shared one, and how many local ones come before it.
+fn look_first(size: Size, limit: u64) -> Peek
+    ensures { (points : List Point) → size.before ≡ local_before points → size.first ≡ first_shared points →
+        result ≡ peek_of (steps points) limit }
 {
-    if f as usize >= program.parts().functions.len() {
-        return None;
+    if limit < size.before {
+        return Peek {
+            local: limit,
+            then: Then::Local,
+        };
     }
-    let size = program.size(f);
-    if size.frames > calls as u32 {
-        return None;
+    Peek {
+        local: size.before,
+        then: match size.first {
+            Some(shared) => Then::Shared(operation(shared)),
+            None => Then::Over,
+        },
     }
-    if size.points > most {
-        return None;
-    }
-    if size.work { Some(size.points) } else { None }
+}
+
+/// What was found of statements, and the statement behind them.
+#[derive(Clone, Copy)]
+struct Seen {
+    peek: Peek,
+    to: usize,
 }
 
 /// The points of statement `at`, with calls and loops followed so deep.
@@ -103,27 +111,28 @@ fn look_at(
     program: &Program,
     calls: u16,
     loops: u8,
-    statements: &[Stmt],
+    block: &Block<'_>,
     at: usize,
     limit: u64,
 ) -> Peek
-    requires { loops ≤ most_loops }
-    ensures { (f line : ℕ) (a : Action) → Does statements.now at a →
+    requires loops { loops ≤ most_loops }
+    requires block { IsBlock program.now block.now }
+    ensures { (f line : ℕ) (a : Action) → Does block.now.statements.now at a →
         result ≡ peek_of (steps (points_of_action program.now calls loops f line a)) limit }
 {
     let nothing = Peek {
         local: 0,
         then: Then::Over,
     };
-    match statement_at(statements, at) {
+    match statement_at(block.statements, at) {
         Ahead::End => nothing,
         Ahead::Work(n) => look_local(n as u64, limit),
         Ahead::Labels(_) => look_local(1, limit),
-        Ahead::Loop(n, inner) => {
+        Ahead::Loop(n, _) => {
             if loops == 0 {
                 return nothing;
             }
-            look_turns(program, calls, loops - 1, inner, n, limit)
+            look_turns(program, calls, loops - 1, &block.inside(at), n, limit)
         }
         Ahead::Call(h) => {
             if calls == 0 {
@@ -132,16 +141,47 @@ fn look_at(
             if h as usize >= program.parts().functions.len() {
                 return nothing;
             }
-            if let Some(n) = local_call(program, calls, h) {
-                return look_local(n, limit);
+            let size = program.size(h);
+            if size.frames <= calls as u32 {
+                return look_first(size, limit);
             }
-            let called = function_body(program.parts(), h as u8);
-            look_on(program, calls - 1, LOOPS, called, 0, limit)
+            look_on(program, calls - 1, LOOPS, &program.block(h), 0, limit)
         }
         Ahead::Shared(operation) => Peek {
             local: 0,
             then: Then::Shared(operation),
         },
+    }
+}
+
+/// The points of statement `at` and of those behind it, as many as are told at once: where their points all are local.
+#[cycle(look)]
+fn look_some(
+    program: &Program,
+    calls: u16,
+    loops: u8,
+    block: &Block<'_>,
+    at: usize,
+    limit: u64,
+) -> Seen
+    requires loops { loops ≤ most_loops }
+    requires block { IsBlock program.now block.now }
+    requires there { at < length block.now.statements.now }
+    ensures to { (at < result.to) × (result.to ≤ length block.now.statements.now) }
+    ensures seen { (f : ℕ) → result.peek ≡
+        peek_of (steps (points_of_all program.now calls loops f (between at result.to block.now.statements.now))) limit }
+{
+    // (it tells that the program was checked)
+    let _ = program.parts();
+    if let Some(run) = block.local_run(at, loops, calls) {
+        return Seen {
+            peek: look_local(run.points, limit),
+            to: run.to,
+        };
+    }
+    Seen {
+        peek: look_at(program, calls, loops, block, at, limit),
+        to: at + 1,
     }
 }
 
@@ -151,25 +191,27 @@ pub(crate) fn look_on(
     program: &Program,
     calls: u16,
     loops: u8,
-    statements: &[Stmt],
+    block: &Block<'_>,
     from: usize,
     limit: u64,
 ) -> Peek
-    requires { loops ≤ most_loops }
-    ensures { (f : ℕ) → result ≡ peek_of (steps (points_of_all program.now calls loops f (drop from statements.now))) limit }
+    requires loops { loops ≤ most_loops }
+    requires block { IsBlock program.now block.now }
+    ensures { (f : ℕ) → result ≡
+        peek_of (steps (points_of_all program.now calls loops f (drop from block.now.statements.now))) limit }
 {
     let mut local = 0;
     let mut at = from;
-    while at < statements.len() {
-        let seen = look_at(program, calls, loops, statements, at, limit - local);
-        local += seen.local;
-        if !seen.is_over() {
+    while at < block.statements.len() {
+        let seen = look_some(program, calls, loops, block, at, limit - local);
+        local += seen.peek.local;
+        if !seen.peek.is_over() {
             return Peek {
                 local,
-                then: seen.then,
+                then: seen.peek.then,
             };
         }
-        at += 1;
+        at = seen.to;
     }
     Peek {
         local,
@@ -183,12 +225,14 @@ pub(crate) fn look_turns(
     program: &Program,
     calls: u16,
     loops: u8,
-    statements: &[Stmt],
+    block: &Block<'_>,
     n: u32,
     limit: u64,
 ) -> Peek
-    requires { loops ≤ most_loops }
-    ensures { (f : ℕ) → result ≡ peek_of (steps (repeated n (points_of_all program.now calls loops f statements.now))) limit }
+    requires loops { loops ≤ most_loops }
+    requires block { IsBlock program.now block.now }
+    ensures { (f : ℕ) → result ≡
+        peek_of (steps (repeated n (points_of_all program.now calls loops f block.now.statements.now))) limit }
 {
     if n == 0 {
         return Peek {
@@ -196,7 +240,7 @@ pub(crate) fn look_turns(
             then: Then::Over,
         };
     }
-    let once = look_on(program, calls, loops, statements, 0, limit);
+    let once = look_on(program, calls, loops, block, 0, limit);
     if !once.is_over() {
         return once;
     }
@@ -216,62 +260,29 @@ fn look_times(once: u64, n: u32, limit: u64) -> Peek
     }
 }
 
-/// How many points statement `at` has where all are work and at most `most`, with calls and loops followed so deep.
-#[cycle(work)]
-pub(crate) fn work_at(
-    program: &Program,
-    calls: u16,
-    loops: u8,
-    statements: &[Stmt],
-    at: usize,
-    most: u64,
-) -> Option<u64>
-    requires { loops ≤ most_loops }
-    ensures work { IfSome result (λ n. (f line : ℕ) (a : Action) → Does statements.now at a →
-        AreWork (points_of_action program.now calls loops f line a) n) }
-    ensures few { IfSome result (λ n. n ≤ most) }
+/// The points that are left of a level with the statements of `here`.
+pub(crate) fn look_here(program: &Program, level: Level, here: &Block<'_>, limit: u64) -> Peek
+    requires loops { level.loops ≤ most_loops }
+    requires block { IsBlock program.now here.now }
+    ensures { result ≡ peek_of (steps (left_here program.now level here.now.statements.now)) limit }
 {
-    match statement_at(statements, at) {
-        Ahead::Work(n) => at_most(n as u64, most),
-        Ahead::Call(f) => work_call(program, calls, f, most),
-        Ahead::Loop(n, inner) => {
-            if loops == 0 {
-                return None;
-            }
-            let once = work_on(program, calls, loops - 1, inner, most)?;
-            at_most(once.checked_mul(n as u64)?, most)
-        }
-        Ahead::End => None,
-        Ahead::Labels(_) => None,
-        Ahead::Shared(_) => None,
+    // (mostly what was called has come to its end)
+    if level.turns == 0 && level.at >= here.statements.len() {
+        return Peek {
+            local: 0,
+            then: Then::Over,
+        };
     }
-}
-
-/// How many points statements have where all are work and at most `most`.
-#[cycle(work)]
-pub(crate) fn work_on(
-    program: &Program,
-    calls: u16,
-    loops: u8,
-    statements: &[Stmt],
-    most: u64,
-) -> Option<u64>
-    requires { loops ≤ most_loops }
-    ensures work { IfSome result (λ n. (f : ℕ) → AreWork (points_of_all program.now calls loops f statements.now) n) }
-    ensures few { IfSome result (λ n. n ≤ most) }
-{
-    let mut points = 0;
-    for at in 0..statements.len() {
-        points += work_at(program, calls, loops, statements, at, most - points)?;
+    let first = look_on(program, level.calls, level.loops, here, level.at, limit);
+    if !first.is_over() {
+        return first;
     }
-    Some(points)
-}
-
-/// A number, where it is at most `most`.
-fn at_most(n: u64, most: u64) -> Option<u64>
-    ensures { IfSome result (λ k. (k ≡ n) × (n ≤ most)) }
-{
-    if n <= most { Some(n) } else { None }
+    let left = limit - first.local;
+    let again = look_turns(program, level.calls, level.loops, here, level.turns, left);
+    Peek {
+        local: first.local + again.local,
+        then: again.then,
+    }
 }
 
 /// The points that are left of a level, `outer` being the levels around it.
@@ -279,29 +290,5 @@ pub(crate) fn look_level(program: &Program, level: Level, outer: &[Level], limit
     requires { level.loops ≤ most_loops }
     ensures { result ≡ peek_of (steps (left_here program.now level (body_at program.now level (reverse outer.now)))) limit }
 {
-    let statements = body(program.parts(), level, outer);
-    let first = look_on(
-        program,
-        level.calls,
-        level.loops,
-        statements,
-        level.at,
-        limit,
-    );
-    if !first.is_over() {
-        return first;
-    }
-    let left = limit - first.local;
-    let again = look_turns(
-        program,
-        level.calls,
-        level.loops,
-        statements,
-        level.turns,
-        left,
-    );
-    Peek {
-        local: first.local + again.local,
-        then: again.then,
-    }
+    look_here(program, level, &block(program, level, outer), limit)
 }

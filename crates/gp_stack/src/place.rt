@@ -1,6 +1,6 @@
 ghost use Rattle.std.specs.Prelude.{◌≡◌, ◌+◌, ◌-◌, ◌*◌, ◌<◌, ◌≤◌, ◌^◌, List, [], ◌∷◌, ◌++◌, IsTrue, length, reverse, vec_len, vec_capacity, drop, IfOk, IfSome, MatchOption, Option};
 ghost use Rattle.std.specs.Bool.{OnTrue, OnFalse};
-ghost use Rattle.gp_stack.specs.kept.Place.{levels, stepped, left_behind, looped, called, levels_from, room, IsIn, IsSettled};
+ghost use Rattle.gp_stack.specs.kept.Place.{levels, stepped, left_behind, looped, called, room, IsHere, IsIn, IsSettled};
 ghost use Rattle.gp_isa.specs.Trace.{trace, trace_within};
 ghost use Rattle.gp_isa.specs.Size.{depth_of};
 ghost use Rattle.gp_stack.specs.kept.Level.{left, body_at};
@@ -8,14 +8,13 @@ ghost use Rattle.gp_stack.specs.kept.Ahead.{IsAhead, HasNext};
 ghost use Rattle.gp_stack.specs.kept.Looks.{peek_of, steps};
 ghost use Rattle.gp_stack.specs.declared.statement.Operation.{Operation};
 ghost use Rattle.gp_stack.specs.kept.Cost.{cost};
-ghost use Rattle.gp_stack.specs.kept.Passing.{Passes, IsWorkStatement, IsWorkTurn};
-ghost use Rattle.gp_isa.specs.Limits.{most_loops};
+ghost use Rattle.gp_stack.specs.kept.Passing.{Passes, IsWorkRun, IsWorkTurn};
 
-use crate::level::{Level, body};
-use crate::peek::{Peek, Then, look_level, work_at, work_on};
+use crate::level::{Level, block};
+use crate::peek::{Peek, Then, look_here, look_level};
 use crate::statement::{Ahead, statement_at};
 use gp_isa::limits::LOOPS;
-use gp_isa::{Memory, Program};
+use gp_isa::{Block, Memory, Program, Run};
 use std::alloc::Global;
 
 /// A place in the trace of a function: the level of the next statement, and those around it, the outermost first.
@@ -87,7 +86,7 @@ impl Place {
     /// Goes into a loop of `n` turns, at its end, or passes it by where loops stand too deep.
     fn enter_loop(&mut self, n: u32, len: usize)
         requires next { self.old.top.at + 1 < 2 ^ 64 }
-        requires room { vec_len self.old.outer + levels_from self.old.top ≤ vec_capacity self.old.outer }
+        requires room { vec_len self.old.outer < vec_capacity self.old.outer }
         ensures levels { levels self.new ≡ looped self.old.top.loops n len self.old.top (reverse self.old.outer.items) }
         ensures room { vec_capacity self.new.outer ≡ vec_capacity self.old.outer }
     {
@@ -108,7 +107,7 @@ impl Place {
     /// Goes into function `f`, or passes the call by where calls aren't followed.
     fn enter_call(&mut self, f: u8)
         requires next { self.old.top.at + 1 < 2 ^ 64 }
-        requires room { vec_len self.old.outer + levels_from self.old.top ≤ vec_capacity self.old.outer }
+        requires room { vec_len self.old.outer + self.old.top.calls ≤ vec_capacity self.old.outer }
         ensures levels { levels self.new ≡ called self.old.top.calls f self.old.top (reverse self.old.outer.items) }
         ensures room { vec_capacity self.new.outer ≡ vec_capacity self.old.outer }
     {
@@ -126,25 +125,77 @@ impl Place {
         self.enter(inner);
     }
 
+    /// The statements of the level of the place, and what the program keeps of them.
+    pub(crate) fn here<'a>(&self, program: &'a Program) -> Block<'a>
+        ensures { IsHere program.now self.now.top (reverse self.now.outer.items) result }
+    {
+        block(program, self.top, self.outer.as_slice())
+    }
+
     /// What stands at the place.
     pub(crate) fn ahead<'a>(&self, program: &'a Program) -> Ahead<'a>
         ensures ahead { IsAhead (body_at program.now self.now.top (reverse self.now.outer.items)) self.now.top.at result }
         ensures within { HasNext self.now.top.at result }
     {
-        let body = body(program.parts(), self.top, self.outer.as_slice());
-        statement_at(body, self.top.at)
+        self.ahead_in(program, &self.here(program))
     }
 
-    /// A move towards the next point that passes none, where one is left.
-    fn step(&mut self, program: &Program) -> bool
+    /// What stands at the place, where its level's statements were looked up.
+    pub(crate) fn ahead_in<'a>(&self, program: &Program, here: &Block<'a>) -> Ahead<'a>
+        requires { IsHere program.now self.now.top (reverse self.now.outer.items) here.now }
+        ensures ahead { IsAhead (body_at program.now self.now.top (reverse self.now.outer.items)) self.now.top.at result }
+        ensures within { HasNext self.now.top.at result }
+    {
+        // (it brings what the program is, of which the clauses tell)
+        let _ = program;
+        statement_at(here.statements, self.top.at)
+    }
+
+    /// At the end of a level whose body doesn't come again: goes back to the level around it, where there is one.
+    fn leave_over(&mut self, program: &Program) -> bool
         requires { IsIn program.now self.old }
+        ensures place { IsIn program.now self.new }
+        ensures left { left program.now (levels self.new) ≡ left program.now (levels self.old) }
+        ensures falls { cost program.now (levels self.new) ≤ cost program.now (levels self.old) }
+        ensures less { OnTrue result (cost program.now (levels self.new) < cost program.now (levels self.old)) }
+    {
+        if self.top.turns != 0 {
+            return false;
+        }
+        if self.top.at < self.here(program).statements.len() {
+            return false;
+        }
+        self.leave()
+    }
+
+    /// At the end of a level: takes its next turn, or goes back to the level around it, and on from there where that is
+    /// at its end too.
+    fn leave_all(&mut self, program: &Program) -> bool
+        requires place { IsIn program.now self.old }
+        requires over { length (body_at program.now self.old.top (reverse self.old.outer.items)) ≤ self.old.top.at }
         ensures place { IsIn program.now self.new }
         ensures left { left program.now (levels self.new) ≡ left program.now (levels self.old) }
         ensures falls { OnTrue result (cost program.now (levels self.new) < cost program.now (levels self.old)) }
         ensures settled { OnFalse result (IsSettled program.now self.new.top (reverse self.new.outer.items)) }
     {
-        match self.ahead(program) {
-            Ahead::End => self.leave(),
+        if !self.leave() {
+            return false;
+        }
+        while self.leave_over(program) {}
+        true
+    }
+
+    /// A move towards the next point that passes none, where one is left.
+    fn step(&mut self, program: &Program, here: &Block<'_>) -> bool
+        requires place { IsIn program.now self.old }
+        requires here { IsHere program.now self.old.top (reverse self.old.outer.items) here.now }
+        ensures place { IsIn program.now self.new }
+        ensures left { left program.now (levels self.new) ≡ left program.now (levels self.old) }
+        ensures falls { OnTrue result (cost program.now (levels self.new) < cost program.now (levels self.old)) }
+        ensures settled { OnFalse result (IsSettled program.now self.new.top (reverse self.new.outer.items)) }
+    {
+        match self.ahead_in(program, here) {
+            Ahead::End => self.leave_all(program),
             Ahead::Work(n) => {
                 if n == 0 {
                     self.skip();
@@ -169,74 +220,59 @@ impl Place {
         }
     }
 
-    /// Goes on to the next point, or to the end.
-    pub(crate) fn settle(&mut self, program: &Program)
-        requires { IsIn program.now self.old }
-        ensures place { IsIn program.now self.new }
-        ensures left { left program.now (levels self.new) ≡ left program.now (levels self.old) }
-        ensures settled { IsSettled program.now self.new.top (reverse self.new.outer.items) }
-    {
-        while self.step(program) {}
-    }
-
-    /// The points of the statement at the place, where they all are work and at most `most`.
-    fn work_here(&self, program: &Program, most: u64) -> Option<u64>
-        requires { self.now.top.loops ≤ most_loops }
-        ensures stands { IfSome result (IsWorkStatement program.now self.now.top (reverse self.now.outer.items)) }
-        ensures few { IfSome result (λ n. n ≤ most) }
+    /// As many statements from the one at the place on as have points of work alone, at most `most`.
+    fn work_here(&self, program: &Program, here: &Block<'_>, most: u64) -> Option<Run>
+        requires { IsHere program.now self.now.top (reverse self.now.outer.items) here.now }
+        ensures stands { IfSome result (λ run. IsWorkRun program.now self.now.top (reverse self.now.outer.items) run.to run.points) }
+        ensures few { IfSome result (λ run. run.points ≤ most) }
     {
         if most == 0 {
             return None;
         }
-        let body = body(program.parts(), self.top, self.outer.as_slice());
-        if self.top.at >= body.len() {
-            return None;
-        }
-        work_at(
-            program,
-            self.top.calls,
-            self.top.loops,
-            body,
-            self.top.at,
-            most,
-        )
+        // (it tells that the program was checked)
+        let _ = program.parts();
+        here.work_run(self.top.at, self.top.loops, self.top.calls, most)
     }
 
     /// The points of a turn of the level at whose end the place is, where it comes again and they all are work and at
     /// most `most`.
-    fn work_turn(&self, program: &Program, most: u64) -> Option<u64>
-        requires { self.now.top.loops ≤ most_loops }
+    fn work_turn(&self, program: &Program, here: &Block<'_>, most: u64) -> Option<u64>
+        requires { IsHere program.now self.now.top (reverse self.now.outer.items) here.now }
         ensures stands { IfSome result (IsWorkTurn program.now self.now.top (reverse self.now.outer.items)) }
         ensures few { IfSome result (λ n. n ≤ most) }
     {
         if self.top.turns == 0 {
             return None;
         }
-        let body = body(program.parts(), self.top, self.outer.as_slice());
-        if self.top.at < body.len() {
+        let _ = program.parts();
+        if self.top.at < here.statements.len() {
             return None;
         }
-        let once = work_on(program, self.top.calls, self.top.loops, body, most)?;
-        if once == 0 { None } else { Some(once) }
+        let turn = here.work_run(0, self.top.loops, self.top.calls, most)?;
+        if turn.to < here.statements.len() || turn.points == 0 {
+            return None;
+        }
+        Some(turn.points)
     }
 
     /// Takes so many turns of the level at whose end the place is as have at most `most` points, all of them work, and
     /// says how many points.
-    fn take_turns(&mut self, program: &Program, most: u64) -> Option<u64>
-        requires { IsIn program.now self.old }
+    fn take_turns(&mut self, program: &Program, here: &Block<'_>, most: u64) -> Option<u64>
+        requires place { IsIn program.now self.old }
+        requires here { IsHere program.now self.old.top (reverse self.old.outer.items) here.now }
         ensures place { IsIn program.now self.new }
         ensures few { IfSome result (λ n. n ≤ most) }
         ensures passes { MatchOption result (levels self.new ≡ levels self.old) (Passes program.now (levels self.old) (levels self.new)) }
         ensures falls { IfSome result (λ _. cost program.now (levels self.new) < cost program.now (levels self.old)) }
     {
-        let once = self.work_turn(program, most)?;
+        let once = self.work_turn(program, here, most)?;
         let turns = (most / once).min(self.top.turns as u64);
         self.top.turns -= turns as u32;
         Some(turns * once)
     }
 
-    /// A move towards the next point, which passes at most `most` points of work where a statement or turns have no
-    /// others.
+    /// A move towards the next point, which passes at most `most` points of work where statements or turns have no
+    /// others. The level's statements are looked up once.
     fn hop(&mut self, program: &Program, most: u64) -> Option<u64>
         requires { IsIn program.now self.old }
         ensures place { IsIn program.now self.new }
@@ -246,14 +282,35 @@ impl Place {
         ensures ends { MatchOption result (IsSettled program.now self.new.top (reverse self.new.outer.items))
             (λ _. cost program.now (levels self.new) < cost program.now (levels self.old)) }
     {
-        if let Some(n) = self.work_here(program, most) {
-            self.skip();
+        let here = self.here(program);
+        if let Some(run) = self.work_here(program, &here, most) {
+            self.top.at = run.to;
+            return Some(run.points);
+        }
+        if let Some(n) = self.take_turns(program, &here, most) {
             return Some(n);
         }
-        if let Some(n) = self.take_turns(program, most) {
-            return Some(n);
+        if self.step(program, &here) {
+            Some(0)
+        } else {
+            None
         }
-        if self.step(program) { Some(0) } else { None }
+    }
+
+    /// Goes on to the next point or to the end, and on the way passes at most `most` points of work, so many as it says:
+    /// those of statements and of turns that have no others.
+    fn go_on(&mut self, program: &Program, most: u64) -> u64
+        requires { IsIn program.now self.old }
+        ensures place { IsIn program.now self.new }
+        ensures passes { Passes program.now (levels self.old) (levels self.new) result }
+        ensures few { result ≤ most }
+        ensures settled { IsSettled program.now self.new.top (reverse self.new.outer.items) }
+    {
+        let mut passed = 0;
+        while let Some(n) = self.hop(program, most - passed) {
+            passed += n;
+        }
+        passed
     }
 
     /// Goes past the statement at the place, to the next point or to the end, and on the way passes at most `most`
@@ -267,11 +324,7 @@ impl Place {
         ensures settled { IsSettled program.now self.new.top (reverse self.new.outer.items) }
     {
         self.skip();
-        let mut passed = 0;
-        while let Some(n) = self.hop(program, most - passed) {
-            passed += n;
-        }
-        passed
+        self.go_on(program, most)
     }
 
     /// Begins function `f`, with calls followed `calls` deep.
@@ -291,18 +344,19 @@ impl Place {
             loops: LOOPS,
         };
         self.outer.clear();
-        self.settle(program);
+        self.go_on(program, 0);
     }
 
     /// The points behind the statement at the place.
-    fn look_behind(&self, program: &Program, limit: u64) -> Peek
+    fn look_behind(&self, program: &Program, here: &Block<'_>, limit: u64) -> Peek
         requires place { IsIn program.now self.now }
+        requires here { IsHere program.now self.now.top (reverse self.now.outer.items) here.now }
         requires next { self.now.top.at + 1 < 2 ^ 64 }
         ensures { result ≡ peek_of (steps (left program.now (stepped (levels self.now)))) limit }
     {
         let mut top = self.top;
         top.at += 1;
-        let first = look_level(program, top, self.outer.as_slice(), limit);
+        let first = look_here(program, top, here, limit);
         let mut local = first.local;
         if !first.is_over() {
             return first;
@@ -332,8 +386,15 @@ impl Place {
     }
 
     /// What `first` found of the statement at the place, and then the points behind it.
-    pub(crate) fn look_past(&self, program: &Program, first: Peek, limit: u64) -> Peek
+    pub(crate) fn look_past(
+        &self,
+        program: &Program,
+        here: &Block<'_>,
+        first: Peek,
+        limit: u64,
+    ) -> Peek
         requires place { IsIn program.now self.now }
+        requires here { IsHere program.now self.now.top (reverse self.now.outer.items) here.now }
         requires next { self.now.top.at + 1 < 2 ^ 64 }
         requires few { first.local ≤ limit }
         ensures { (xs : List (Option Operation)) → first ≡ peek_of xs limit →
@@ -342,7 +403,7 @@ impl Place {
         if !first.is_over() {
             return first;
         }
-        let rest = self.look_behind(program, limit - first.local);
+        let rest = self.look_behind(program, here, limit - first.local);
         Peek {
             local: first.local + rest.local,
             then: rest.then,

@@ -49,7 +49,7 @@ pub(crate) fn statement_at(body: &[Stmt], at: usize) -> Ahead<'_>
         Some(s) => match &s.what {
             What::Work { n } => Ahead::Work(*n),
             What::Labels { s } => Ahead::Labels(*s),
-            What::Loop { n, body, .. } => Ahead::Loop(*n, body.as_slice()),
+            What::Loop { n, body, .. } => Ahead::Loop(*n, body.get().as_slice()),
             What::Call { f } => Ahead::Call(*f),
             What::Send { c } => Ahead::Shared(Operation::Send { c: *c }),
             What::Recv { c } => Ahead::Shared(Operation::Recv { c: *c }),

@@ -4,26 +4,15 @@ use Rattle.std.specs.Prelude.{◌-◌, ◌==◌, ℕ, zero, suc, Bool, cond, Lis
 use Rattle.gp_isa.specs.declared.frame.Frame.{Frame}
 use Rattle.gp_isa.specs.declared.parts.Parts.{Parts}
 use Rattle.gp_isa.specs.declared.statement.Stmt.{Stmt}
-use Rattle.gp_isa.specs.declared.statement.What.TheOpen.{Loop}
 use Rattle.gp_isa.specs.Limits.{most_loops}
-use Rattle.gp_isa.specs.Statement.{Action, action_of, line_of}
+use Rattle.gp_isa.specs.Statement.{line_of}
+pub use Rattle.gp_isa.specs.Statement.{loop_body, body_inside}
 use Rattle.gp_isa.specs.Trace.{Point, repeated, points_of_body, body_of, trace_within}
 use Rattle.gp_stack.specs.declared.level.Level.{Level}
 
 -- whether a level is the body of its function, and not of a loop in it
 abbrev pub is_base : Level → Bool
 is_base level = level.loops == most_loops
-
-abbrev pub loop_body : Action → List Stmt
-loop_body (Loop n body end) = body
-loop_body _ = []
-
--- the body of the loop that is statement `at` of a body, empty where that is no loop
-abbrev pub body_inside : List Stmt → ℕ → List Stmt
-body_inside body at = elim (slice_get body at) as (λ _. List Stmt) [
-  | Some s ↦ loop_body (action_of s)
-  | None ↦ []
-]
 
 -- the line of statement `at` of a body
 abbrev pub line_at : List Stmt → ℕ → ℕ

@@ -1,12 +1,10 @@
 -- Points of work that are passed many at once.
-use Rattle.std.specs.Prelude.{◌≡◌, ◌≤◌, ◌<◌, ◌+◌, ◌^◌, ℕ, true, List, ◌++◌, length}
+use Rattle.std.specs.Prelude.{◌≡◌, ◌≤◌, ◌<◌, ℕ, true, List, ◌++◌, length}
 use Rattle.gp_isa.specs.Size.{is_work, all_pass}
 use Rattle.gp_isa.specs.Trace.{Point}
 use Rattle.gp_isa.specs.declared.parts.Parts.{Parts}
-use Rattle.gp_isa.specs.Statement.{Action, line_of}
+use Rattle.gp_isa.specs.Block.{between}
 use Rattle.gp_stack.specs.declared.level.Level.{Level}
-use Rattle.gp_stack.specs.kept.Ahead.{Does}
-use Rattle.gp_stack.specs.kept.Looks.{points_of_action}
 use Rattle.gp_stack.specs.kept.Level.{points_of_statements, body_at, left}
 
 -- Some points begin with so many points of work, and then come the others.
@@ -32,9 +30,8 @@ pub record IsWorkTurn (parts : Parts) (level : Level) (outer : List Level) (n : 
   pub some : 0 < n
   pub work : AreWork (points_of_statements parts level (body_at parts level outer)) n
 
--- a statement stands at a level that has so many points, all of them work
-pub record IsWorkStatement (parts : Parts) (level : Level) (outer : List Level) (n : ℕ) : Type 0 where
-  pub action : Action
-  pub stands : Does (body_at parts level outer) level.at action
-  pub next : level.at + 1 < 2 ^ 64
-  pub work : AreWork (points_of_action parts level.calls level.loops level.function (line_of stands.statement) action) n
+-- The statements of a level from its next one on, up to another one, have so many points, all of them work.
+pub record IsWorkRun (parts : Parts) (level : Level) (outer : List Level) (to n : ℕ) : Type 0 where
+  pub some : level.at < to
+  pub within : to ≤ length (body_at parts level outer)
+  pub work : AreWork (points_of_statements parts level (between level.at to (body_at parts level outer))) n

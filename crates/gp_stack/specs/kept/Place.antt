@@ -1,8 +1,11 @@
 -- Places in a trace, and the moves between them that pass no point.
 use Rattle.std.specs.Prelude.{◌≡◌, ◌+◌, ◌-◌, ◌*◌, ◌≤◌, ℕ, zero, suc, List, [], ◌∷◌, length, reverse, vec_capacity}
+use Rattle.gp_isa.specs.declared.block.Block.{Block}
 use Rattle.gp_isa.specs.declared.parts.Parts.{Parts}
+use Rattle.gp_isa.specs.Block.{IsBlock}
 use Rattle.gp_isa.specs.Limits.{most_loops}
 use Rattle.gp_isa.specs.Size.{depth_of}
+use Rattle.gp_isa.specs.Nesting.{loops_in, nesting_of}
 use Rattle.gp_isa.specs.declared.statement.What.TheOpen.{Work, Call, Loop}
 use Rattle.gp_isa.specs.Statement.{Action}
 use Rattle.gp_stack.specs.declared.level.Level.{Level}
@@ -41,24 +44,29 @@ called zero f level outer = stepped (level ∷ outer)
 called (suc calls) f level outer =
     record { at = 0; turns = 0; calls = calls; function = f; loops = most_loops } ∷ stepped (level ∷ outer)
 
--- How many levels may still be entered from a level: those of the loops of its function, and for each call that is
--- followed that of the function called and of its loops.
-abbrev pub levels_from : Level → ℕ
-levels_from level = (most_loops + 1) * level.calls + level.loops
+-- How many levels may still be entered from a level: those of the loops of its body, and for each call that is followed
+-- that of the function called and of its loops.
+abbrev pub levels_from : Parts → Level → List Level → ℕ
+levels_from parts level outer = (nesting_of parts + 1) * level.calls + loops_in (suc level.loops) (body_at parts level outer)
 
 -- How many levels stand around another one at most, the innermost one apart.
 abbrev pub room : Parts → ℕ
-room parts = (most_loops + 1) * (depth_of parts - 1) + most_loops
+room parts = (nesting_of parts + 1) * (depth_of parts - 1) + nesting_of parts
 
 -- Each level leaves room for those that may still be entered from it.
-abbrev pub Fit : ℕ → List Level → Type 0
-Fit most [] = Unit {0}
-Fit most (level ∷ outer) = (length outer + levels_from level ≤ most) × (level.loops ≤ most_loops) × Fit most outer
+abbrev pub Fit : Parts → ℕ → List Level → Type 0
+Fit parts most [] = Unit {0}
+Fit parts most (level ∷ outer) = (length outer + levels_from parts level outer ≤ most) × (level.loops ≤ most_loops) × Fit parts most outer
 
 -- a place has the room that a program wants
 pub record IsIn (parts : Parts) (place : Place) : Type 0 where
-  pub fit : Fit (room parts) (levels place)
+  pub fit : Fit parts (room parts) (levels place)
   pub reserved : room parts ≤ vec_capacity place.outer
+
+-- what was looked up of a level are its statements, and what the program keeps of them
+pub record IsHere (parts : Parts) (level : Level) (outer : List Level) (block : Block) : Type 0 where
+  pub statements : block.statements.now ≡ body_at parts level outer
+  pub kept : IsBlock parts block
 
 -- a statement that begins with a point
 abbrev pub IsPoint : Action → Type 0

@@ -4,4 +4,4 @@ use Rattle.gp_stack.proofs.climb.caller.Goals as goal
 
 pub returns : goal.returns
 unfolding frame_of
-returns c = rw (c.line.ensures, c.body-body.ensures, c.parts.ensures.parts, c.as_slice.ensures.value, c.saturating_sub.ensures) refl
+returns c = rw (c.line.ensures, c.block-here.ensures.statements, c.as_slice.ensures.value, c.saturating_sub.ensures) refl

@@ -1,22 +1,9 @@
-use Rattle.std.proofs.Common.{◌≤◌, ◌-◌, refl, reverse, arith}
-use Rattle.gp_stack.specs.kept.Level.{body_at}
-use Rattle.gp_stack.proofs.Looking.{level_stop, level_on, on_few, turns_few}
+use Rattle.std.proofs.Common.{◌≡◌, List, subst}
+use Rattle.gp_isa.specs.declared.statement.Stmt.{Stmt}
+use Rattle.gp_stack.specs.kept.Level.{left_here}
+use Rattle.gp_stack.specs.kept.Looks.{steps, peek_of}
 use Rattle.gp_stack.proofs.peek.look_level.Goals as goal
 
-pub returns-then-not-is_over : goal.returns-then-not-is_over
-returns-then-not-is_over c = level_stop c.args.program.now c.args.level c.body-statements.result.now (body_at c.args.program.now c.args.level (reverse c.args.outer.now)) c.args.limit c.look_on-first.result
-    (rw (c.body-statements.ensures, c.parts.ensures.parts) refl) c.look_on-first.ensures c.if-not-is_over.ensures.more
-
-pub overflow_sub-left : goal.overflow_sub-left
-overflow_sub-left c = on_few c.args.program.now c.args.level.calls c.args.level.loops c.args.level.at c.args.limit c.body-statements.result.now c.look_on-first.result c.look_on-first.ensures
-
-pub overflow_add-result : goal.overflow_add-result
-overflow_add-result c =
-    let first : c.look_on-first.result.local ≤ c.args.limit = on_few c.args.program.now c.args.level.calls c.args.level.loops c.args.level.at c.args.limit c.body-statements.result.now c.look_on-first.result c.look_on-first.ensures in
-    let again : c.look_turns-again.result.local ≤ c.args.limit - c.look_on-first.result.local = turns_few c.args.program.now c.args.level.calls c.args.level.loops c.args.level.turns (c.args.limit - c.look_on-first.result.local)
-    c.body-statements.result.now c.look_turns-again.result c.look_turns-again.ensures in
-    omega arith
-
 pub returns : goal.returns
-returns c = level_on c.args.program.now c.args.level c.body-statements.result.now (body_at c.args.program.now c.args.level (reverse c.args.outer.now)) c.args.limit c.look_on-first.result c.look_turns-again.result
-    (rw (c.body-statements.ensures, c.parts.ensures.parts) refl) c.look_on-first.ensures c.if-not-is_over.ensures.over c.look_turns-again.ensures
+returns c =
+    subst (λ (body : List Stmt). c.look_here.result ≡ peek_of (steps (left_here c.args.program.now c.args.level body)) c.args.limit) c.block.ensures.statements c.look_here.ensures

@@ -1,3 +1,4 @@
+use Rattle.std.proofs.Common.{◌∙◌}
 use Rattle.gp_isa.proofs.Actions.{action-work, action-labels, action-call, action-send, action-recv, action-lock, action-unlock, action-spawn, action-loop}
 use Rattle.gp_stack.proofs.Levels.{does_what}
 use Rattle.gp_stack.proofs.statement.statement_at.Goals as goal
@@ -27,4 +28,4 @@ pub returns-in-Spawn-clause-ahead : goal.returns-in-Spawn-clause-ahead
 returns-in-Spawn-clause-ahead c = does_what _ _ _ _ _ c.in-Some.ensures.value c.in-Spawn.is (action-spawn c.in-Spawn.f)
 
 pub returns-in-Loop-clause-ahead : goal.returns-in-Loop-clause-ahead
-returns-in-Loop-clause-ahead c = (c.in-Loop.end, rw c.as_slice.ensures (does_what _ _ _ _ _ c.in-Some.ensures.value c.in-Loop.is (action-loop c.in-Loop.n c.in-Loop.body c.in-Loop.end)))
+returns-in-Loop-clause-ahead c = (c.in-Loop.end, rw (c.as_slice.ensures ∙ c.get.ensures) (does_what _ _ _ _ _ c.in-Some.ensures.value c.in-Loop.is (action-loop c.in-Loop.n c.in-Loop.body c.in-Loop.end)))

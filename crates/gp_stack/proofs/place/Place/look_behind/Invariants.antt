@@ -9,7 +9,7 @@ abbrev pub invariant-loop-around : goal.invariant-loop-around
 invariant-loop-around l = record {
   few : l.local ≤ l.limit;
   within : l.around ≤ vec_len l.self.outer;
-  fit : Fit (room l.program) (reverse (take l.around l.self.outer.items));
+  fit : Fit l.program (room l.program) (reverse (take l.around l.self.outer.items));
   sees : Sees (steps (left l.program (stepped (levels l.self)))) l.limit l.local (steps (left l.program (reverse (take l.around l.self.outer.items))));
 }
 

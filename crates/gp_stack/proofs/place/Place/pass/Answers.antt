@@ -1,29 +1,13 @@
-use Rattle.std.proofs.Common.{rules, ◌≡◌, ◌+◌, ◌≤◌, ◌-◌, List, refl, subst, arith}
+use Rattle.std.proofs.Common.{List, reverse, subst}
 use Rattle.gp_stack.specs.declared.level.Level.{Level}
-use Rattle.gp_stack.specs.kept.Level.{left}
-use Rattle.gp_stack.specs.kept.Place.{levels}
+use Rattle.gp_stack.specs.kept.Place.{levels, stepped, room}
 use Rattle.gp_stack.specs.kept.Passing.{Passes}
-use Rattle.gp_stack.proofs.Passing.{passes_none, work_more}
+use Rattle.gp_stack.proofs.Settle.{is_in, fit_stepped}
 use Rattle.gp_stack.proofs.place.Place.pass.Goals as goal
 
-pub loop-n-init : goal.loop-n-init
-loop-n-init c = record {
-  place = search rules;
-  passes = passes_none c.args.program.now (levels c.skip.new.self) (levels c.skip.new.self) refl;
-  few = omega arith;
-}
-
-pub loop-n-preserved : goal.loop-n-preserved
-loop-n-preserved c = record {
-  place = c.hop.ensures.place;
-  passes = work_more (left c.args.program.now (levels c.skip.new.self)) (left c.args.program.now (levels c.loop-n.self)) (left c.args.program.now (levels c.hop.new.self)) c.loop-n.passed c.in-Some.n c.loop-n.invariant.passes c.in-Some.ensures.passes;
-  few = let more : c.in-Some.n ≤ c.args.most - c.loop-n.passed = c.in-Some.ensures.few in omega (arith, c.loop-n.invariant.few);
-}
+pub go_on-requires : goal.go_on-requires
+go_on-requires c = is_in c.args.program.now c.args.self.now c.skip.new.self (stepped (levels c.args.self.now)) c.requires.place c.skip.ensures.levels (fit_stepped c.args.program.now (room c.args.program.now) c.args.self.now.top (reverse
+    c.args.self.now.outer.items) c.requires.place.fit) c.skip.ensures.room
 
 pub returns-clause-passes : goal.returns-clause-passes
-returns-clause-passes c =
-    let all : c.loop-n.passed + 0 ≡ c.loop-n.passed = omega arith in
-    subst (λ (before : List Level). Passes c.args.program.now before (levels c.hop.new.self) c.loop-n.passed) c.skip.ensures.levels
-    (subst (λ n. Passes c.args.program.now (levels c.skip.new.self) (levels c.hop.new.self) n) all
-    (work_more (left c.args.program.now (levels c.skip.new.self)) (left c.args.program.now (levels c.loop-n.self)) (left c.args.program.now (levels c.hop.new.self)) c.loop-n.passed 0 c.loop-n.invariant.passes
-    (passes_none c.args.program.now (levels c.loop-n.self) (levels c.hop.new.self) c.in_default.ensures.passes)))
+returns-clause-passes c = subst (λ (before : List Level). Passes c.args.program.now before (levels c.go_on.new.self) c.go_on.result) c.skip.ensures.levels c.go_on.ensures.passes

@@ -1,6 +1,8 @@
 use Rattle.std.proofs.Common.{◌≡◌, ◌<◌, ◌≤◌, ◌+◌, ◌-◌, ◌*◌, reverse, arith}
 use Rattle.gp_stack.proofs.Costs.{cost_turns}
 use Rattle.gp_stack.proofs.Passing.{passes_turns, turns_fit}
+use Rattle.gp_stack.specs.kept.Place.{room}
+use Rattle.gp_stack.proofs.Settle.{fit_turning}
 use Rattle.gp_stack.proofs.place.Place.take_turns.Goals as goal
 
 pub returns-clause-few : goal.returns-clause-few
@@ -20,3 +22,9 @@ returns-clause-falls c =
     turns_fit c.args.most c.in_ok-once.once c.args.self.now.top.turns c.min-turns.result c.min-turns.ensures c.in_ok-once.ensures.stands.some c.in_ok-once.ensures.few c.in_ok-once.ensures.stands.again in
     let rest : c.args.self.now.top.turns ≡ c.min-turns.result + (c.args.self.now.top.turns - c.min-turns.result) = omega (arith, fit.1) in
     cost_turns c.args.program.now c.args.self.now.top (reverse c.args.self.now.outer.items) c.min-turns.result (c.args.self.now.top.turns - c.min-turns.result) c.in_ok-once.ensures.stands.over rest fit.0
+
+pub returns-clause-place : goal.returns-clause-place
+returns-clause-place c = record {
+  fit = fit_turning c.args.program.now (room c.args.program.now) (c.args.self.now.top.turns - c.min-turns.result) c.args.self.now.top (reverse c.args.self.now.outer.items) c.requires.place.fit;
+  reserved = c.requires.place.reserved;
+}

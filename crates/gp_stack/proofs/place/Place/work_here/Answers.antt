@@ -1,14 +1,15 @@
-use Rattle.std.proofs.Common.{◌≡◌, refl, reverse, ◌∙◌}
-use Rattle.gp_stack.specs.kept.Level.{body_at}
-use Rattle.gp_stack.specs.kept.Passing.{IsWorkStatement}
-use Rattle.gp_stack.proofs.Working.{some_weaker, WorkAt, work_stands}
+use Rattle.std.proofs.Common.{◌<◌, ◌≤◌, length, reverse}
+use Rattle.gp_isa.specs.declared.parts.Parts.{Parts}
+use Rattle.gp_isa.specs.Block.{IsBlock, IsRun}
+use Rattle.gp_isa.specs.Size.{is_work}
+use Rattle.gp_stack.specs.kept.Passing.{IsWorkRun}
+use Rattle.gp_stack.proofs.Working.{told_both, work_stands}
 use Rattle.gp_stack.proofs.place.Place.work_here.Goals as goal
 
 pub returns-clause-stands : goal.returns-clause-stands
 returns-clause-stands c =
-    let same : c.body-body.result.now ≡ body_at c.args.program.now c.args.self.now.top (reverse c.args.self.now.outer.items) =
-    c.body-body.ensures ∙ (rw (c.as_slice.ensures.value, c.parts.ensures.parts) refl) in
-    some_weaker c.work_at.result (WorkAt c.args.program.now c.args.self.now.top.calls c.args.self.now.top.loops c.body-body.result.now c.args.self.now.top.at)
-    (IsWorkStatement c.args.program.now c.args.self.now.top (reverse c.args.self.now.outer.items))
-    (λ n here. work_stands c.args.program.now c.args.self.now.top (reverse c.args.self.now.outer.items) n c.body-body.result.now same c.if-self-body.false c.body-body.type_inv.0 here)
-    c.work_at.ensures.work
+    told_both c.work_run.result (λ run. (c.args.self.now.top.at < run.to) × (run.to ≤ length c.args.here.now.statements.now))
+    (λ run. (parts : Parts) → IsBlock parts c.args.here.now → IsRun parts is_work c.args.here.now.statements.now c.args.self.now.top.loops c.args.self.now.top.calls c.args.self.now.top.at run)
+    (λ run. IsWorkRun c.args.program.now c.args.self.now.top (reverse c.args.self.now.outer.items) run.to run.points)
+    (λ run within is. work_stands c.args.program.now c.parts.ensures.checked c.args.self.now.top (reverse c.args.self.now.outer.items) c.args.here.now.statements.now run c.requires.statements within (is c.args.program.now c.requires.kept))
+    c.work_run.ensures.within c.work_run.ensures.run

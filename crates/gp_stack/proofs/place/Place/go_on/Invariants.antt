@@ -2,7 +2,7 @@ use Rattle.std.proofs.Common.{◌≤◌}
 use Rattle.gp_stack.specs.kept.Place.{levels, IsIn}
 use Rattle.gp_stack.specs.kept.Passing.{Passes}
 use Rattle.gp_stack.specs.kept.Cost.{cost}
-use Rattle.gp_stack.proofs.place.Place.pass.Given as goal
+use Rattle.gp_stack.proofs.place.Place.go_on.Given as goal
 
 abbrev pub invariant-loop-n : goal.invariant-loop-n
 invariant-loop-n l = record {
