@@ -17,7 +17,7 @@ use Rattle.gp_journal.specs.State.{Code, State, nobody, goroutine, worker, chann
 use Rattle.gp_journal.specs.Due.{next_instruction}
 use Rattle.gp_journal.specs.May.{May}
 use Rattle.gp_journal.specs.Effect.{with_goroutine, passed, unmarked, blocked_at, woken_at, child_of, waiter, passes, faults, bears, meets, operates, after}
-use Rattle.gp_journal.specs.Run.{AreLegal, after_all}
+use Rattle.gp_journal.specs.Run.{AreLegal, IsLegal, after_all, last}
 use Rattle.gp_sync.specs.Places.{in_line, in_channel, in_mutex, places_of}
 use Rattle.gp_journal.specs.Waiting.{TellsClocks, WaitListsTell}
 use Rattle.gp_journal.specs.RunLaws.{WaitListsTellClocks}
@@ -241,12 +241,22 @@ no_mutex P zero c p = p
 no_mutex P (suc n) zero p = p
 no_mutex P (suc n) (suc c) p = no_mutex P n c p
 
-pub wait_lists_tell_clocks : WaitListsTellClocks
-wait_lists_tell_clocks code settings journal k legal =
+first_tells : (code : Code) (settings : Settings) → Tells (first code settings)
+first_tells code settings =
     let gs = (first code settings).goroutines in
-    all_tell code settings (first code settings) (take k journal) (first_whole code settings)
-    (record {
+    record {
       senders = λ c. no_channel (λ x. TellsClocks gs x.senders) code.channels c tt;
       receivers = λ c. no_channel (λ x. TellsClocks gs x.receivers) code.channels c tt;
       waiters = λ m. no_mutex (λ x. TellsClocks gs x.waiters) code.mutexes m tt;
-    }) (prefix_legal code settings (first code settings) k journal legal)
+    }
+
+-- So they do after all entries of a legal journal,
+pub last_tells : (code : Code) (settings : Settings) (journal : List Entry) → IsLegal code settings journal →
+    let s = last code settings journal in WaitListsTell s.goroutines s.channels s.mutexes
+last_tells code settings journal legal =
+    all_tell code settings (first code settings) journal (first_whole code settings) (first_tells code settings) legal
+
+-- and at each of its steps.
+pub wait_lists_tell_clocks : WaitListsTellClocks
+wait_lists_tell_clocks code settings journal k legal =
+    last_tells code settings (take k journal) (prefix_legal code settings (first code settings) k journal legal)

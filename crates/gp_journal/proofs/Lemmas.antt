@@ -58,3 +58,5 @@ pub use Rattle.gp_journal.proofs.Following.{leaves_bodies, stays, follows_run, M
 pub use Rattle.gp_journal.proofs.BodiesTell.{has_body, runner_live, run_ahead, op_at_shared, point_is, row_is, bodies_follow, bodies_gain, nobody_born}
 -- One of some bodies moves on.
 pub use Rattle.gp_journal.proofs.MovedOn.{moved, as_many}
+-- The waits that Ops end and those at contended unlocks: how they grow, what is foreseen of them, and how long they are.
+pub use Rattle.gp_journal.proofs.Waits.{waits_begin, contentions_begin, waits_grow, contentions_grow, foreseen_is, wait_fits, contention_fits}

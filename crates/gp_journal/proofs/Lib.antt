@@ -30,4 +30,5 @@ pub mod RecordsNamed
 pub mod Following
 pub mod BodiesTell
 pub mod MovedOn
+pub mod Waits
 pub mod Lemmas

@@ -15,6 +15,8 @@ pub mod Bodies
 pub mod Profiles
 pub mod ProfilesLaw
 pub mod RecordsNamed
+pub mod Waits
+pub mod WaitsLaw
 pub mod JournalLaw
 pub mod RunLaws
 pub mod NumberLaws

@@ -6,6 +6,7 @@ ghost use Rattle.gp_journal.specs.RunLaws.{RefuseLeavesAll, RunsEndOneWay};
 ghost use Rattle.gp_journal.specs.NumberLaws.{EntriesAreCounted, NumbersHold, EntriesAreBounded, ClocksAreBelow, EpochsAreOrdered};
 ghost use Rattle.gp_journal.specs.ProfilesLaw.{RecordsGrow, RecordsAreCounted, RecordsAreFrozen};
 ghost use Rattle.gp_journal.specs.RecordsNamed.{RecordsAreThere};
+ghost use Rattle.gp_journal.specs.WaitsLaw.{WaitsGrow, ContentionsGrow, WaitsAreForeseen, WaitsAreShort};
 ghost use Rattle.gp_journal.specs.StepLaws.{OthersStay, EpochsStay, QueueAfter, OverStays, NothingAfterComplete};
 ghost use Rattle.gp_journal.specs.Worked.{SmallExamples, SmallestProgram, smallest, WokenBetween, wake, RoomForTwo, pair};
 ghost use Rattle.gp_journal.specs.Worked.{ContendedMutex, contended, Deadlocks, deadlocked, FaultOfUnlock};
@@ -29,6 +30,15 @@ pub fn law_records()
     ensures counted { RecordsAreCounted }
     ensures frozen { RecordsAreFrozen }
     ensures there { RecordsAreThere }
+{}
+
+/// The waits of every legal journal of every program, those that its Ops end and those at its contended unlocks: how they
+/// grow with each entry, that what is foreseen of an Op tells them, and that none takes longer than the run so far.
+pub fn law_waits()
+    ensures ended { WaitsGrow }
+    ensures contended { ContentionsGrow }
+    ensures foreseen { WaitsAreForeseen }
+    ensures short { WaitsAreShort }
 {}
 
 /// Laws of legal journals: prefixes, births in order, on which worker a goroutine runs, who stands in the queue, waits

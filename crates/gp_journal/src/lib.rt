@@ -41,6 +41,7 @@
 //! waits, refusals, ends, bounds on entries, clock, slices, births and epochs, and the order of clocks and of epochs.
 //! `law_entries` says what single entries leave, and what they do to the queue. `law_records`: the records of each
 //! profile (`Profiles`), the rows of its Record entries in their order, which sorted are the frozen rows at its Open.
+//! `law_waits`: the waits that Ops end and those at contended unlocks (`Waits`), of which block and mutex profiles are made.
 //! `Bodies` says where bodies stand that stand where their goroutines do, and `Shown` what they show of them.
 //! Crates above take their lemmas from `proofs/Lemmas.antt` alone.
 #![tactic(auto)]
@@ -55,6 +56,8 @@ mod settings;
 pub use answer::{Applied, Foreseen, NO_CELL, SharedPoint, UNLOCK_OF_FREE, Wait, Woken};
 pub use entry::{Counts, Ended, Entry, Journal, Refusals};
 pub use goroutine::{Goroutine, Status, Worker};
-pub use laws::{law_entries, law_journal, law_numbers, law_records, law_runs, law_worked};
+pub use laws::{
+    law_entries, law_journal, law_numbers, law_records, law_runs, law_waits, law_worked,
+};
 pub use run::Run;
 pub use settings::{Picks, Request, Requests, Settings};
