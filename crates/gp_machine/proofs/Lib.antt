@@ -6,6 +6,8 @@ pub mod Ending
 pub mod Acting
 pub mod Marked
 pub mod Ticks
+pub mod SetBits
+pub mod Crew
 pub mod Kept
 pub mod Judged
 pub mod Peeked

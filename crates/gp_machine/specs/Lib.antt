@@ -15,6 +15,8 @@ pub use Rattle.gp_journal.specs.Bodies
 pub use Rattle.gp_journal.specs.Profiles
 pub use Rattle.gp_journal.specs.ProfilesLaw
 pub use Rattle.gp_journal.specs.RecordsNamed
+pub use Rattle.gp_journal.specs.Waits
+pub use Rattle.gp_journal.specs.WaitsLaw
 pub use Rattle.gp_journal.specs.JournalLaw
 pub use Rattle.gp_journal.specs.RunLaws
 pub use Rattle.gp_journal.specs.NumberLaws

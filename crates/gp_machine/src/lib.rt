@@ -2,11 +2,11 @@
 //!
 //! The value of a `Machine` is the journal, and beside it it keeps the present state in place (`Present`): the
 //! goroutines with their counts (`Goroutines`), the queue of the runnable (`Queue`), the wait lists of `gp_sync`, the
-//! workers with the number of those that run one (`Workers`), the clock and the requests. `apply` makes one legal entry,
+//! workers with marks of those that run one (`Workers`), the clock and the requests. `apply` makes one legal entry,
 //! changes in place what that names and nothing else, and answers what the definitions tell; `specs/kept/` says what is
 //! kept. Each call takes constant time, however many goroutines there are: from the queue, a ring of links by number, any
-//! goroutine may leave, and who has still to be recorded stands in a bitmap that tells its least number (`IdSet`). Only
-//! `busy_at` looks at the workers one after another, who are at most 16, and only `Machine::new` takes memory.
+//! goroutine may leave, and who has still to be recorded stands in a bitmap that tells its least number (`IdSet`). `busy_at`
+//! clears a bit for each busy worker before the one that it finds, 15 at most. Only `Machine::new` takes memory.
 //!
 //! What is kept before and after one entry, with three cells and one worker: goroutine 0 unlocks a mutex for which 1
 //! and 2 have waited since clock 1000.
@@ -47,7 +47,7 @@ pub use at_point::AtPoint;
 pub use gp_journal::{
     Applied, Counts, Ended, Entry, Foreseen, Goroutine, Journal, NO_CELL, Picks, Refusals, Request,
     Requests, Run, Settings, SharedPoint, Status, UNLOCK_OF_FREE, Wait, Woken, Worker, law_entries,
-    law_journal, law_numbers, law_records, law_runs, law_worked,
+    law_journal, law_numbers, law_records, law_runs, law_waits, law_worked,
 };
 pub use machine::Machine;
 pub use queue::Queue;

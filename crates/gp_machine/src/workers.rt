@@ -1,9 +1,12 @@
-ghost use Rattle.std.specs.Prelude.{◌≡◌, ◌<◌, ◌≤◌, ◌+◌, ◌-◌, ◌%◌, ◌^◌, ◌==◌, true, length, get_or, set, take, replicate, count_by, IfOk};
+ghost use Rattle.std.specs.Prelude.{◌≡◌, ◌≢◌, ◌<◌, ◌≤◌, ◌+◌, ◌-◌, ◌%◌, ◌^◌, ◌==◌, ℕ, true};
+ghost use Rattle.std.specs.Prelude.{length, get_or, set, take, replicate, count_by, IfOk};
+ghost use Rattle.std.specs.Int.{bit_at};
 ghost use Rattle.gp_isa.specs.Limits.{most_workers};
 ghost use Rattle.gp_journal.specs.State.{resting};
 ghost use Rattle.gp_journal.specs.Effect as effect;
 ghost use Rattle.gp_machine.specs.OnWorker.{is_busy};
-ghost use Rattle.gp_machine.specs.kept.Workers.{left_of, worked_at, worked_by};
+ghost use Rattle.gp_machine.specs.kept.Crowd.{one_if};
+ghost use Rattle.gp_machine.specs.kept.Workers.{bits_below, left_of, worked_at, worked_by};
 
 use crate::goroutines::moved;
 use gp_isa::Memory;
@@ -13,8 +16,8 @@ use std::marker::Model;
 
 /// The workers, by number.
 ///
-/// How many run a goroutine is counted as they start one and leave it. How many instructions each has left to its next
-/// tick is counted down, so that a division is made at a tick alone.
+/// Those that run a goroutine are marked and counted as they start one and leave it. How many instructions each has left to
+/// its next tick is counted down, so that a division is made at a tick alone.
 #[derive(Debug, Drop)]
 pub struct Workers {
     // how many instructions of a worker lie between two ticks
@@ -22,6 +25,9 @@ pub struct Workers {
     all: Vec<Worker>,
     // by worker: how many are left to its next tick
     to_tick: Vec<u64>,
+    // bit w tells whether worker w runs a goroutine
+    marks: u32,
+    // how many do
     busy: u32,
 }
 
@@ -32,7 +38,7 @@ impl Model for Workers {
 
     ghost view = { λ w. record { period = w.period; all = w.all.items } };
 
-    ghost invariant = { λ w. AreKept w.period w.all.items w.to_tick.items w.busy };
+    ghost invariant = { λ w. AreKept w.period w.all.items w.to_tick.items w.marks w.busy };
 }
 
 const RESTING: Worker = Worker {
@@ -75,24 +81,30 @@ fn work(worker: &mut Worker, n: u64, died: bool, at_tick: bool)
     }
 }
 
-// The worker at a place among those that run a goroutine.
-fn busy_at(all: &[Worker], place: u32) -> u32
-    requires few { length all.now ≤ most_workers }
-    requires there { place < count_by is_busy all.now }
-    ensures within { result < length all.now }
-    ensures busy { is_busy (get_or all.now result resting) ≡ true }
-    ensures before { count_by is_busy (take result all.now) ≡ place }
+// The marks of workers once worker w runs a goroutine or doesn't.
+fn mark(marks: u32, w: u32, is: bool) -> u32
+    requires { w < 32 }
+    ensures here { bit_at result w ≡ one_if is }
+    ensures others { (v : ℕ) → v < 32 → v ≢ w → bit_at result v ≡ bit_at marks v }
 {
-    let mut before = 0;
-    for (w, worker) in all.iter().enumerate() {
-        if worker.runs.is_some() {
-            if before == place {
-                return w as u32;
-            }
-            before += 1;
-        }
+    let bit = 1 << w;
+    if is { marks | bit } else { marks & !bit }
+}
+
+// The place in a word of one of its set bits, which are counted from 0 and from the lowest.
+fn set_bit(word: u32, count: u32) -> u32
+    requires { count < bits_below word 32 }
+    ensures within { result < 32 }
+    ensures set { bit_at word result ≡ 1 }
+    ensures before { bits_below word result ≡ count }
+{
+    let mut rest = word;
+    let mut left = count;
+    while left > 0 {
+        rest &= !(1 << rest.trailing_zeros());
+        left -= 1;
     }
-    unreachable!()
+    rest.trailing_zeros()
 }
 
 impl Workers {
@@ -109,6 +121,7 @@ impl Workers {
             period,
             all,
             to_tick,
+            marks: 0,
             busy: 0,
         })
     }
@@ -134,7 +147,7 @@ impl Workers {
         ensures busy { is_busy (get_or self.now.all result resting) ≡ true }
         ensures before { count_by is_busy (take result self.now.all) ≡ place }
     {
-        busy_at(&self.all, place)
+        set_bit(self.marks, place)
     }
 
     /// w begins to run g.
@@ -146,6 +159,7 @@ impl Workers {
         let was = worker.runs.is_some();
         worker.runs = Some(g);
         worker.slice = 0;
+        self.marks = mark(self.marks, w, true);
         self.busy = moved(self.busy, was, true);
     }
 
@@ -157,6 +171,7 @@ impl Workers {
         let worker = &mut self.all[w as usize];
         let was = worker.runs.is_some();
         worker.runs = None;
+        self.marks = mark(self.marks, w, false);
         self.busy = moved(self.busy, was, false);
     }
 
@@ -181,7 +196,9 @@ impl Workers {
         let left = &mut self.to_tick[w as usize];
         let at_tick = count_down(left, self.period, worker.instructions, n);
         work(worker, n, died, at_tick);
-        self.busy = moved(self.busy, was, was && !died);
+        let is = worker.runs.is_some();
+        self.marks = mark(self.marks, w, is);
+        self.busy = moved(self.busy, was, is);
     }
 
     /// w's due tick is cleared.

@@ -1,9 +1,12 @@
--- The workers, with how many of them run a goroutine, and how far each is from its next tick.
-use Rattle.std.specs.Prelude.{◌≡◌, ◌+◌, ◌-◌, ◌%◌, ◌<◌, ◌≤◌, ℕ, Bool, not, ◌&&◌, ◌||◌, ◌==◌, List, length, get_or, count_by, if◌then◌else◌, None}
+-- The workers, with marks of those that run a goroutine and how many these are, and how far each is from its next tick.
+use Rattle.std.specs.Prelude.{◌≡◌, ◌+◌, ◌-◌, ◌%◌, ◌<◌, ◌≤◌, ℕ, zero, suc, Bool, not, ◌&&◌, ◌||◌, ◌==◌}
+use Rattle.std.specs.Prelude.{List, length, get_or, count_by, if◌then◌else◌, None}
+use Rattle.std.specs.Int.{bit_at}
 use Rattle.gp_isa.specs.Limits.{most_workers}
 use Rattle.gp_journal.specs.declared.goroutine.Worker.{Worker}
 use Rattle.gp_journal.specs.State.{resting}
 use Rattle.gp_machine.specs.OnWorker.{is_busy}
+use Rattle.gp_machine.specs.kept.Crowd.{one_if}
 
 -- the workers by number, and how many instructions of each lie between two of its ticks
 pub record Crew : Type 0 where
@@ -14,10 +17,20 @@ pub record Crew : Type 0 where
 abbrev pub left_of : ℕ → Worker → ℕ
 left_of period w = period - w.instructions % period
 
--- They are as few as there may be, those that run a goroutine are counted, and so is what each has left.
-pub record AreKept (period : ℕ) (all : List Worker) (to_tick : List ℕ) (busy : ℕ) : Type 0 where
+-- how many bits of a word are set below one
+unfoldable pub bits_below : ℕ → ℕ → ℕ
+bits_below word zero = 0
+bits_below word (suc k) = bits_below word k + bit_at word k
+
+-- the bits of a word say of each worker whether it runs a goroutine
+abbrev pub AreMarked : List Worker → ℕ → Type 0
+AreMarked all marks = (w : ℕ) → w < 32 → bit_at marks w ≡ one_if (is_busy (get_or all w resting))
+
+-- They are as few as there may be, those that run a goroutine are marked and counted, and what each has left is kept.
+pub record AreKept (period : ℕ) (all : List Worker) (to_tick : List ℕ) (marks busy : ℕ) : Type 0 where
   pub some : 0 < period
   pub few : length all ≤ most_workers
+  pub marked : AreMarked all marks
   pub counted : busy ≡ count_by is_busy all
   pub as_many : length to_tick ≡ length all
   pub left : (w : ℕ) → get_or to_tick w period ≡ left_of period (get_or all w resting)
