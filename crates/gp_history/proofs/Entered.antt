@@ -17,8 +17,15 @@ use Rattle.gp_journal.proofs.Lemmas.{first_whole, all_whole, after_all-append, q
 use Rattle.gp_journal.proofs.Lemmas.{opened_last, recorded_active, closed_active, records_grow, some_records, appended, some_request, last_is, last_grown, unrecorded_open, unrecorded_record, unrecorded_quiet}
 use Rattle.gp_journal.specs.Profiles.{records_of, last_rows, grown, with_row}
 use Rattle.gp_history.specs.Recorder.{Recording}
-use Rattle.gp_history.specs.History.{LeavesProfiles, most_rows}
+use Rattle.gp_history.specs.History.{most_rows}
 use Rattle.gp_history.specs.kept.History.{IsHistory}
+
+-- An entry by which no profile begins, grows or ends.
+abbrev pub LeavesProfiles : Entry → Type 0
+LeavesProfiles (Open epoch room) = ⊥
+LeavesProfiles (Record actor g) = ⊥
+LeavesProfiles (Close epoch) = ⊥
+LeavesProfiles _ = Unit {0}
 
 quiet : (entry : Entry) → LeavesProfiles entry → IsQuiet entry
 quiet (Open epoch room) leaves = leaves

@@ -1,1 +1,3 @@
 pub mod Entered
+pub mod Noted
+pub mod Keeping

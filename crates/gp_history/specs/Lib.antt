@@ -1,3 +1,4 @@
 pub mod Recorder
+pub mod Events
 pub mod History
 pub mod kept
