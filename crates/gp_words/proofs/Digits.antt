@@ -1,11 +1,11 @@
 -- Digits, and the numbers that they write.
-use Rattle.std.proofs.Common.{◌≡◌, ℕ, ◌<◌, ◌≤◌, ◌^◌, List, length, true, false, Some, None, Result, Ok, Err, ◌&&◌, refl, arith, inl, inr, leb}
+use Rattle.std.proofs.Common.{◌≡◌, ℕ, ◌<◌, ◌≤◌, ◌^◌, ◌%◌, List, length, Bool, true, false, cond, ap, ◌∙◌, Some, None, Result, Ok, Err, ◌&&◌, refl, arith, inl, inr, leb, eqb}
 use Rattle.std.specs.Result.{result_ok}
 use Rattle.std.specs.Str.{all_ascii_digits}
 use Rattle.std.specs.Str.Parse.{ParsesUnsigned, digits_value}
-use Rattle.std.proofs.lemmas.Bool.{cases_lt, and_parts, leb-true, lt-leb, le-leb, and_left, and_right}
+use Rattle.std.proofs.lemmas.Bool.{eqb-true, eq-eqb, ne_eqb, cases_lt, and_parts, leb-true, lt-leb, le-leb, and_left, and_right}
 use Rattle.std.proofs.lemmas.Str.Parse.{IsNumeralModel, numerals_by_value, tells_all_ascii_digits, parse_digits}
-use Rattle.gp_words.specs.Numbers.{is_number, number_in}
+use Rattle.gp_words.specs.Numbers.{is_number, number_in, if_divides, divisor_in}
 
 own : IsNumeralModel (λ ds. all_ascii_digits ds ≡ true) (digits_value 10)
 own = numerals_by_value (λ ds. all_ascii_digits ds ≡ true) tells_all_ascii_digits
@@ -64,3 +64,22 @@ parsed_none word (Err x) least most fits is e h =
       | inl low ↦ absurd (none (omega arith, low))
       | inr high ↦ value_above least most word is (omega arith)
     ]
+
+-- divisors of a number
+pub divisor_none : (whole : ℕ) (word : List ℕ) → number_in 1 whole word ≡ None → divisor_in whole word ≡ None
+unfolding divisor_in
+divisor_none whole word e = ap (if_divides whole) e
+
+pub divisor_some : (whole n : ℕ) (word : List ℕ) → number_in 1 whole word ≡ Some n → whole % n ≡ 0 → divisor_in whole word ≡ Some n
+unfolding divisor_in
+divisor_some whole n word e even = ap (if_divides whole) e ∙ ap (λ b. cond b (Some n) None) (eq-eqb (whole % n) 0 even)
+
+pub divisor_not : (whole n : ℕ) (word : List ℕ) → number_in 1 whole word ≡ Some n → (whole % n ≡ 0 → ⊥) → divisor_in whole word ≡ None
+unfolding divisor_in
+divisor_not whole n word e odd = ap (if_divides whole) e ∙ ap (λ b. cond b (Some n) None) (ne_eqb (whole % n) 0 odd)
+
+pub divides_is : (whole m n : ℕ) → if_divides whole (Some m) ≡ Some n → (m ≡ n) × (whole % m ≡ 0)
+divides_is whole m n e = go (eqb (whole % m) 0) refl e where
+  go : (b : Bool) → eqb (whole % m) 0 ≡ b → cond b (Some m) None ≡ Some n → (m ≡ n) × (whole % m ≡ 0)
+  go true is e = (cc, eqb-true (whole % m) 0 is)
+  go false is e = absurd cc

@@ -5,3 +5,4 @@ pub mod Sound
 pub mod Taking
 pub mod Ranges
 pub mod Commands
+pub mod Lemmas

@@ -1,5 +1,7 @@
 -- Lists of numbers, read piece by piece.
-use Rattle.std.proofs.Common.{◌≡◌, ℕ, ◌<◌, ◌≤◌, ◌+◌, ◌-◌, ◌^◌, List, [], ◌∷◌, ◌++◌, length, get_or, drop, Bool, true, false, Option, Some, None, option_map, cond, sym, ap, ◌∙◌, refl, arith, append_assoc, append-nil, leb, ◌&&◌, suc, All, subst, codes}
+use Rattle.std.proofs.Common.{◌≡◌, ℕ, ◌<◌, ◌≤◌, ◌+◌, ◌-◌, ◌%◌, ◌^◌, List, [], ◌∷◌, ◌++◌, length, get_or, drop, Bool, true, false, Option, Some, None, option_map, cond, sym, ap, ◌∙◌, refl, arith, append_assoc, append-nil, leb, ◌&&◌, suc, All, subst}
+use Rattle.std.proofs.Common.{codes, Result, IfOk}
+use Rattle.std.specs.Option.{ok_or}
 use Rattle.std.specs.Str.Parse.{digits_value}
 use Rattle.std.proofs.lemmas.Bool.{leb-true, le-leb, lt-leb}
 use Rattle.std.proofs.lemmas.List.{at_drop_more, at_drop_all}
@@ -7,12 +9,13 @@ use Rattle.std.proofs.lemmas.List.Elements.{All-nil, All-cons}
 use Rattle.std.specs.Str.{bytes_eq}
 use Rattle.gp_journal.specs.declared.settings.Request.TheVariants.{Clock, End}
 use Rattle.gp_words.specs.declared.setting.Values.{Values}
-use Rattle.gp_words.specs.declared.setting.Values.TheVariants.{Numbers, Instants, Lists}
+use Rattle.gp_words.specs.declared.setting.Values.TheVariants.{Numbers, Divisors, Instants, Lists}
 use Rattle.gp_words.specs.declared.choice.Value.{Value}
 use Rattle.gp_words.specs.declared.choice.Value.TheVariants.{Number, Instant, List as Listed}
 use Rattle.gp_words.specs.kept.Sound.{IsOneOf}
 use Rattle.gp_words.specs.Options.{value_of}
-use Rattle.gp_words.specs.Numbers.{is_number, number_in, in_front, numbers_of, pieces_of, picks_of}
+use Rattle.gp_words.specs.Numbers.{is_number, number_in, if_divides, divisor_in, in_front, numbers_of, pieces_of, picks_of}
+use Rattle.gp_words.proofs.Digits.{divides_is}
 
 -- numbers that were read, in front of the rest
 abbrev pub after : List ℕ → Option (List ℕ) → Option (List ℕ)
@@ -87,6 +90,12 @@ in_range least most word n e =
       go false false true p q e = absurd cc
       go false false false p q e = absurd cc
 
+-- so does one that is given where there is one
+pub number_given : {E : Type 0} (least most : ℕ) (word : List ℕ) (o : Option ℕ) (e : E) (r : Result ℕ E) → o ≡ number_in least most word → r ≡ ok_or o e → IfOk r (λ n. (least ≤ n) × (n ≤ most))
+number_given least most word None e r is same = subst (λ (x : Result ℕ _). IfOk x (λ n. (least ≤ n) × (n ≤ most))) (sym same) tt
+number_given least most word (Some n) e r is same =
+    subst (λ (x : Result ℕ _). IfOk x (λ n. (least ≤ n) × (n ≤ most))) (sym same) (in_range least most word n (sym is))
+
 -- the numbers of a list are there, and each below 2^32
 numbers_fit : (pieces : List (List ℕ)) (numbers : List ℕ) → numbers_of pieces ≡ Some numbers → (length numbers ≡ length pieces) × All (λ n. n < 2 ^ 32) numbers
 numbers_fit [] numbers e =
@@ -114,6 +123,17 @@ picks_fit word numbers e = go (leb (length (pieces_of word)) 100000) refl e wher
       (omega (arith, fit.0), fit.1)
   go false many e = absurd cc
 
+-- a divisor that was read lies in its range
+divisor_range : (whole : ℕ) (word : List ℕ) (n : ℕ) → divisor_in whole word ≡ Some n → (1 ≤ n) × ((n ≤ whole) × (whole % n ≡ 0))
+unfolding divisor_in
+divisor_range whole word n e = go (number_in 1 whole word) refl e where
+  go : (o : Option ℕ) → number_in 1 whole word ≡ o → if_divides whole o ≡ Some n → (1 ≤ n) × ((n ≤ whole) × (whole % n ≡ 0))
+  go None p e = absurd cc
+  go (Some m) p e =
+      let is = divides_is whole m n e in
+      let range = in_range 1 whole word m p in
+      subst (λ (k : ℕ). (1 ≤ k) × ((k ≤ whole) × (whole % k ≡ 0))) is.0 (range.0, (range.1, is.1))
+
 -- a value that a word writes is one of the values asked for
 pub value_in_table : (values : Values) (word : List ℕ) (value : Value) → value_of values word ≡ Some value → IsOneOf values value
 unfolding value_of
@@ -123,6 +143,12 @@ value_in_table (Numbers least most) word value e = go (number_in least most word
   go (Some n) p e =
       let is : Number n ≡ value = cc in
       subst (λ (v : Value). IsOneOf (Numbers least most) v) is (in_range least most word n p)
+value_in_table (Divisors whole) word value e = go (divisor_in whole word) refl e where
+  go : (o : Option ℕ) → divisor_in whole word ≡ o → option_map Number o ≡ Some value → IsOneOf (Divisors whole) value
+  go None p e = absurd cc
+  go (Some n) p e =
+      let is : Number n ≡ value = cc in
+      subst (λ (v : Value). IsOneOf (Divisors whole) v) is (divisor_range whole word n p)
 value_in_table Instants word value e = go (bytes_eq word (codes "end")) (number_in 0 (2 ^ 40) word) refl e where
   go : (b : Bool) (o : Option ℕ) → number_in 0 (2 ^ 40) word ≡ o → cond b (Some (Instant End)) (option_map (λ n. Instant (Clock n)) o) ≡ Some value → IsOneOf Instants value
   go true o p e =

@@ -1,12 +1,13 @@
 -- The settings of options that lie in the table lie in their ranges.
-use Rattle.std.proofs.Common.{◌≡◌, ℕ, ◌<◌, ◌≤◌, ◌+◌, ◌^◌, List, [], ◌∷◌, length, Bool, true, false, cond, Option, Some, None, ap, subst, ◌∙◌, refl, arith, All, lit≤, unwrap_or}
+use Rattle.std.proofs.Common.{◌≡◌, ℕ, ◌<◌, ◌≤◌, ◌+◌, ◌-◌, ◌^◌, ◌%◌, List, [], ◌∷◌, length, Bool, true, false, cond, Option, Some, None, ap, subst, ◌∙◌, refl, arith, All, lit≤, unwrap_or}
 use Rattle.std.proofs.lemmas.List.Elements.{All-nil, All-cons, All-head, All-tail}
 use Rattle.std.proofs.lemmas.List.Sums.{sum_by-cons}
 use Rattle.std.specs.List.{cons_option}
 use Rattle.gp_journal.specs.declared.settings.Request.{Request}
 use Rattle.gp_journal.specs.Settings.{AreInRange, IsInstant}
 use Rattle.gp_words.specs.declared.setting.Setting.{Setting}
-use Rattle.gp_words.specs.declared.setting.Setting.TheVariants.{Workers, At, Room, Seed, Cells, Entries, Picks}
+use Rattle.gp_words.specs.declared.setting.Setting.TheVariants.{Workers, At, Room, Hz, Block, Mutex, Seed, Cells, Entries, Ring, Tags, Picks}
+use Rattle.gp_words.specs.declared.setting.Values.TheVariants.{Numbers}
 use Rattle.gp_words.specs.declared.choice.Choice.{Choice}
 use Rattle.gp_words.specs.declared.choice.Value.{Value}
 use Rattle.gp_words.specs.declared.choice.Value.TheVariants.{Number, Instant, List as Listed}
@@ -35,31 +36,61 @@ either : (P : ℕ → Type 0) (o : Option ℕ) (usual : ℕ) → P usual → ((n
 either P None usual u given = u
 either P (Some n) usual u given = given n refl
 
+-- a setting that has numbers from a least to a most one, its usual number among them
+number_range : (setting : Setting) (usual least most : ℕ) (taken : List Choice) → values_of setting ≡ Numbers least most → least ≤ usual → usual ≤ most → IsSound taken
+    → (least ≤ number_or usual setting taken) × (number_or usual setting taken ≤ most)
+number_range setting usual least most taken values low high s =
+    either (λ n. (least ≤ n) × (n ≤ most)) (number_of setting taken) usual (low, high)
+    (λ n e. subst (λ v. IsOneOf v (Number n)) values (number_table setting taken n s.in_table e))
+
 pub workers_range : (taken : List Choice) → IsSound taken → (1 ≤ number_or 2 Workers taken) × (number_or 2 Workers taken ≤ 16)
-workers_range taken s = either (λ n. (1 ≤ n) × (n ≤ 16)) (number_of Workers taken) 2 (lit≤ tt, lit≤ tt) (λ n e. number_table Workers taken n s.in_table e)
+workers_range taken s = number_range Workers 2 1 16 taken refl (lit≤ tt) (lit≤ tt) s
 
 pub cells_range : (taken : List Choice) → IsSound taken → (1 ≤ number_or 1024 Cells taken) × (number_or 1024 Cells taken ≤ 16384)
-cells_range taken s = either (λ n. (1 ≤ n) × (n ≤ 16384)) (number_of Cells taken) 1024 (lit≤ tt, lit≤ tt) (λ n e. number_table Cells taken n s.in_table e)
+cells_range taken s = number_range Cells 1024 1 16384 taken refl (lit≤ tt) (lit≤ tt) s
 
 pub entries_range : (taken : List Choice) → IsSound taken → (16 ≤ number_or 262144 Entries taken) × (number_or 262144 Entries taken ≤ 4194304)
-entries_range taken s = either (λ n. (16 ≤ n) × (n ≤ 4194304)) (number_of Entries taken) 262144 (lit≤ tt, lit≤ tt) (λ n e. number_table Entries taken n s.in_table e)
+entries_range taken s = number_range Entries 262144 16 4194304 taken refl (lit≤ tt) (lit≤ tt) s
 
-pub room_range : (taken : List Choice) → IsSound taken → number_or (number_or 1024 Cells taken) Room taken ≤ 16384
-room_range taken s =
-    either (λ n. n ≤ 16384) (number_of Room taken) (number_or 1024 Cells taken) (cells_range taken s).1 (λ n e. (number_table Room taken n s.in_table e).1)
+pub block_range : (taken : List Choice) → IsSound taken → (0 ≤ number_or 0 Block taken) × (number_or 0 Block taken ≤ 1)
+block_range taken s = number_range Block 0 0 1 taken refl (lit≤ tt) (lit≤ tt) s
+
+pub mutex_range : (taken : List Choice) → IsSound taken → (0 ≤ number_or 0 Mutex taken) × (number_or 0 Mutex taken ≤ 1000000000)
+mutex_range taken s = number_range Mutex 0 0 1000000000 taken refl (lit≤ tt) (lit≤ tt) s
+
+pub ring_range : (taken : List Choice) → IsSound taken → (16 ≤ number_or 131072 Ring taken) × (number_or 131072 Ring taken ≤ 1048576)
+ring_range taken s = number_range Ring 131072 16 1048576 taken refl (lit≤ tt) (lit≤ tt) s
+
+pub tags_range : (taken : List Choice) → IsSound taken → (1 ≤ number_or 16384 Tags taken) × (number_or 16384 Tags taken ≤ 1048576)
+tags_range taken s = number_range Tags 16384 1 1048576 taken refl (lit≤ tt) (lit≤ tt) s
+
+pub room_range : (taken : List Choice) → IsSound taken → (0 ≤ number_or (number_or 1024 Cells taken) Room taken) × (number_or (number_or 1024 Cells taken) Room taken ≤ 16384)
+room_range taken s = number_range Room (number_or 1024 Cells taken) 0 16384 taken refl (omega arith) (cells_range taken s).1 s
 
 seed_range : (taken : List Choice) → IsSound taken → number_or 42 Seed taken < 2 ^ 64
 seed_range taken s =
-    either (λ n. n < 2 ^ 64) (number_of Seed taken) 42 (omega arith) (λ n e. let high = (number_table Seed taken n s.in_table e).1 in omega arith)
+    let range = number_range Seed 42 0 (2 ^ 64 - 1) taken refl (omega arith) (omega arith) s in
+    omega (arith, range.1)
+
+-- ticks: a divisor of a million
+pub hz_range : (taken : List Choice) → IsSound taken → (1 ≤ number_or 100 Hz taken) × ((number_or 100 Hz taken ≤ 1000000) × (1000000 % number_or 100 Hz taken ≡ 0))
+hz_range taken s =
+    either (λ n. (1 ≤ n) × ((n ≤ 1000000) × (1000000 % n ≡ 0))) (number_of Hz taken) 100 (lit≤ tt, (lit≤ tt, refl))
+    (λ n e. number_table Hz taken n s.in_table e)
 
 -- an instant is the value of `--at` alone
 instant_of_at : (setting : Setting) (request : Request) → IsOneOf (values_of setting) (Instant request) → (IsInstant request) × (◌≡◌ {A = ℕ} (cond (same setting At) 1 0) 1)
-instant_of_at At request one = (one, refl)
 instant_of_at Workers request one = absurd one
+instant_of_at At request one = (one, refl)
 instant_of_at Room request one = absurd one
+instant_of_at Hz request one = absurd one
+instant_of_at Block request one = absurd one
+instant_of_at Mutex request one = absurd one
 instant_of_at Seed request one = absurd one
 instant_of_at Cells request one = absurd one
 instant_of_at Entries request one = absurd one
+instant_of_at Ring request one = absurd one
+instant_of_at Tags request one = absurd one
 instant_of_at Picks request one = absurd one
 
 -- so there are as few instants as options `--at`, and each may be asked for
@@ -84,13 +115,18 @@ instants_range (choice ∷ taken) table =
 
 -- a list is the value of `--picks` alone
 list_table : (setting : Setting) (ns : List ℕ) → IsOneOf (values_of setting) (Listed ns) → (length ns ≤ 100000) × All (λ n. n < 2 ^ 32) ns
-list_table Picks ns one = one
 list_table Workers ns one = absurd one
 list_table At ns one = absurd one
 list_table Room ns one = absurd one
+list_table Hz ns one = absurd one
+list_table Block ns one = absurd one
+list_table Mutex ns one = absurd one
 list_table Seed ns one = absurd one
 list_table Cells ns one = absurd one
 list_table Entries ns one = absurd one
+list_table Ring ns one = absurd one
+list_table Tags ns one = absurd one
+list_table Picks ns one = one
 
 list_range : (taken : List Choice) → All IsInTable taken → (length (list_of taken) ≤ 100000) × All (λ n. n < 2 ^ 32) (list_of taken)
 list_range [] table = (lit≤ tt, All-nil (λ n. n < 2 ^ 32))
@@ -106,8 +142,11 @@ pub settings_range : (taken : List Choice) → IsSound taken → AreInRange (set
 unfolding settings_of
 settings_range taken s =
     let workers = workers_range taken s in
+    let hz = hz_range taken s in
     let cells = cells_range taken s in
     let entries = entries_range taken s in
+    let ring = ring_range taken s in
+    let tags = tags_range taken s in
     let instants = instants_range taken s.in_table in
     let list = list_range taken s.in_table in
     record {
@@ -115,29 +154,31 @@ settings_range taken s =
       workers = workers.1;
       few_requests = omega (arith, instants.few, s.at_most At);
       instants = instants.all;
-      room = room_range taken s;
-      some_hz = lit≤ tt;
-      hz = refl;
-      block = lit≤ tt;
-      mutex = lit≤ tt;
+      room = (room_range taken s).1;
+      some_hz = hz.0;
+      hz = hz.1.1;
+      block = (block_range taken s).1;
+      mutex = (mutex_range taken s).1;
       seed = seed_range taken s;
       some_cell = cells.0;
       cells = cells.1;
       some_entries = entries.0;
       entries = entries.1;
-      some_ring = lit≤ tt;
-      ring = lit≤ tt;
-      some_tag = lit≤ tt;
-      tags = lit≤ tt;
+      some_ring = ring.0;
+      ring = ring.1;
+      some_tag = tags.0;
+      tags = tags.1;
       picks = list.0;
       each_pick = list.1;
     }
 
 -- settings are those of the options where each part is
-pub built : (taken : List Choice) (workers room seed cells entries : ℕ) (at : List Request) (picks : List ℕ) → workers ≡ number_or 2 Workers taken → cells ≡ number_or 1024 Cells taken
-    → room ≡ number_or cells Room taken → entries ≡ number_or 262144 Entries taken → seed ≡ number_or 42 Seed taken → at ≡ instants_of taken → picks ≡ list_of taken
-    → record { workers = workers; at = at; room = room; hz = 100; block = 0; mutex = 0; seed = seed; cells = cells; entries = entries; ring = 131072; tags = 16384; picks = picks } ≡ settings_of taken
+pub built : (taken : List Choice) (workers : ℕ) (at : List Request) (cells room hz block mutex seed entries ring tags : ℕ) (picks : List ℕ)
+    → workers ≡ number_or 2 Workers taken → at ≡ instants_of taken → cells ≡ number_or 1024 Cells taken
+    → room ≡ number_or cells Room taken → hz ≡ number_or 100 Hz taken → block ≡ number_or 0 Block taken → mutex ≡ number_or 0 Mutex taken
+    → seed ≡ number_or 42 Seed taken → entries ≡ number_or 262144 Entries taken → ring ≡ number_or 131072 Ring taken → tags ≡ number_or 16384 Tags taken → picks ≡ list_of taken
+    → record { workers = workers; at = at; room = room; hz = hz; block = block; mutex = mutex; seed = seed; cells = cells; entries = entries; ring = ring; tags = tags; picks = picks } ≡ settings_of taken
 unfolding settings_of
-built taken workers room seed cells entries at picks w c r e s a p =
+built taken workers at cells room hz block mutex seed entries ring tags picks w a c r h b m s e g t p =
     let room_is : room ≡ number_or (number_or 1024 Cells taken) Room taken = r ∙ ap (λ n. number_or n Room taken) c in
     cc

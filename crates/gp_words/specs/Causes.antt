@@ -21,6 +21,6 @@ bad_number = 4
 abbrev pub twice : ℕ
 twice = 5
 
--- The word for the file is empty or begins with `-`.
+-- A word stands behind a whole command, or the word for a file is empty or begins with `-`.
 abbrev pub extra : ℕ
 extra = 6

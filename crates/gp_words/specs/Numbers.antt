@@ -1,5 +1,6 @@
--- What words write: numbers, and lists of numbers.
-use Rattle.std.specs.Prelude.{◌==◌, ◌^◌, ◌-◌, ℕ, Bool, ◌&&◌, List, [], ◌∷◌, length, Option, Some, None, option_map, nat_le, if◌then◌else◌}
+-- What words write: numbers, divisors of a number, and lists of numbers.
+use Rattle.std.specs.Prelude.{◌==◌, ◌^◌, ◌-◌, ◌%◌, ℕ, Bool, ◌&&◌, List, [], ◌∷◌, length, Option, Some, None, option_map, nat_le}
+use Rattle.std.specs.Prelude.{if◌then◌else◌}
 use Rattle.std.specs.List.{slice_split}
 use Rattle.std.specs.Str.{all_ascii_digits}
 use Rattle.std.specs.Str.Parse.{digits_value}
@@ -14,6 +15,15 @@ unfoldable pub number_in : ℕ → ℕ → List ℕ → Option ℕ
 number_in least most word =
     if is_number word && (nat_le least (digits_value 10 word) && nat_le (digits_value 10 word) most)
     then Some (digits_value 10 word) else None
+
+-- a number, where it divides another
+abbrev pub if_divides : ℕ → Option ℕ → Option ℕ
+if_divides whole None = None
+if_divides whole (Some n) = if whole % n == 0 then Some n else None
+
+-- the number that a word writes, where it divides another, from 1 on
+unfoldable pub divisor_in : ℕ → List ℕ → Option ℕ
+divisor_in whole word = if_divides whole (number_in 1 whole word)
 
 -- a number in front of others, where all are there
 abbrev pub in_front : Option ℕ → Option (List ℕ) → Option (List ℕ)

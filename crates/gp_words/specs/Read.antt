@@ -1,5 +1,6 @@
 -- What words say: something, or the first fault in them.
-use Rattle.std.specs.Prelude.{◌≡◌, ℕ, Result, MatchResult}
+use Rattle.std.specs.Prelude.{◌≡◌, ℕ, Option, Some, None, Result, MatchResult}
+use Rattle.gp_words.specs.Causes.{bad_number}
 use Rattle.gp_words.specs.declared.error.WordError.{WordError}
 use Rattle.gp_words.specs.declared.error.WordError.TheVariants.{Usage, Memory}
 
@@ -12,6 +13,11 @@ pub data Read (A : Type 0) : Type 0 where
 abbrev pub and_then : {A B : Type 0} → Read A → (A → Read B) → Read B
 and_then (Names a) rest = rest a
 and_then (Faults place cause) rest = Faults place cause
+
+-- a value, or the fault at its word's place
+abbrev pub value_or_fault : {A : Type 0} → ℕ → Option A → Read A
+value_or_fault place None = Faults place bad_number
+value_or_fault place (Some value) = Names value
 
 -- An answer that there is a fault tells the first one in the words. Nothing is said of want of memory.
 abbrev pub IsFault : {A : Type 0} → WordError → Read A → Type 0

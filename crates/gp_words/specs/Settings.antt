@@ -3,12 +3,15 @@ use Rattle.std.specs.Prelude.{ℕ, List, [], ◌∷◌, Option, Some, None, unwr
 use Rattle.std.specs.List.{filter_map}
 use Rattle.gp_journal.specs.declared.settings.Request.{Request}
 use Rattle.gp_journal.specs.declared.settings.Settings.{Settings}
+use Rattle.gp_words.specs.declared.command.Command.{Command}
 use Rattle.gp_words.specs.declared.setting.Setting.{Setting}
-use Rattle.gp_words.specs.declared.setting.Setting.TheVariants.{Workers, Room, Seed, Cells, Entries}
+use Rattle.gp_words.specs.declared.setting.Setting.TheVariants.{Workers, Room, Hz, Block, Mutex, Seed, Cells, Entries, Ring, Tags}
 use Rattle.gp_words.specs.declared.choice.Choice.{Choice}
 use Rattle.gp_words.specs.declared.choice.Value.{Value}
 use Rattle.gp_words.specs.declared.choice.Value.TheVariants.{Number, Instant, List as Listed}
 use Rattle.gp_words.specs.Table.{same}
+use Rattle.gp_words.specs.Options.{options_of}
+use Rattle.gp_words.specs.Read.{Read, Names, and_then}
 
 -- the number of a value, if it's one
 abbrev pub number_value : Value → Option ℕ
@@ -52,19 +55,23 @@ list_of (choice ∷ taken) = unwrap_or (list_value choice.value) (list_of taken)
 abbrev pub number_or : ℕ → Setting → List Choice → ℕ
 number_or usual setting taken = unwrap_or (number_of setting taken) usual
 
--- the settings: what was given, else the usual values, and the room for all cells; so far no option sets the others
+-- the settings: what was given, else the usual values, and the room for all cells
 unfoldable pub settings_of : List Choice → Settings
 settings_of taken = record {
   workers = number_or 2 Workers taken;
   at = instants_of taken;
   room = number_or (number_or 1024 Cells taken) Room taken;
-  hz = 100;
-  block = 0;
-  mutex = 0;
+  hz = number_or 100 Hz taken;
+  block = number_or 0 Block taken;
+  mutex = number_or 0 Mutex taken;
   seed = number_or 42 Seed taken;
   cells = number_or 1024 Cells taken;
   entries = number_or 262144 Entries taken;
-  ring = 131072;
-  tags = 16384;
+  ring = number_or 131072 Ring taken;
+  tags = number_or 16384 Tags taken;
   picks = list_of taken;
 }
+
+-- the settings that the option words of a command say
+abbrev pub settings_said : Command → List (List ℕ) → Read Settings
+settings_said command words = and_then (options_of command [] words) (λ taken. Names (settings_of taken))

@@ -13,5 +13,5 @@ pub const BAD_NUMBER: u8 = 4;
 /// An option was given before, or `--at` eight times before.
 pub const TWICE: u8 = 5;
 
-/// The word for the file is empty or begins with `-`.
+/// A word stands behind a whole command, or the word for a file is empty or begins with `-`.
 pub const EXTRA: u8 = 6;

@@ -1,8 +1,16 @@
 //! Command words: the job that they ask for, or the first fault in them.
 //!
-//! The words are the arguments after the program's name, and `sim FILE [options]` is the one command so far. FILE is a
-//! word that isn't empty and doesn't begin with `-`. An option is two words, its name and its value, in any order of
-//! options:
+//! The words are the arguments after the program's name:
+//!
+//! ```text
+//! run FILE [options]      sim FILE [options]      gen N Q [options]      dump PROFILE
+//!
+//! sim a.gp --room 1 --room 1
+//!  0    1      2  3      4  5      the places of the words; the first fault is at place 4, cause 5
+//! ```
+//!
+//! FILE and PROFILE are words that aren't empty and don't begin with `-`; N is a number below 2^64, and Q one from 1 to 63.
+//! An option is two words, its name and its value, in any order of options. `run` has no `--picks`.
 //!
 //! | option | value | where it isn't given |
 //! |---|---|---|
@@ -20,17 +28,22 @@
 //! cause (`cause`). At an option an unknown name comes before one that was given before, that before a value that isn't
 //! there, and that before a value outside the table.
 //!
+//! What an option sets (`setting`) has its values, how often it may be given, and its usual value; the table (`table`) has a
+//! row for each option that can be given, its word and the commands that take it. CPU ticks, the ring of their samples and the
+//! rates of blocks and mutexes have no row yet: they are set, and can't be given. A row more lets one be given.
+//!
 //! The definitions are in `specs/`, to be read in the order of `specs/Lib.antt`: what words write (`Numbers`), the table
 //! of options (`Table`), the numbers of causes (`Causes`), what words say or the first fault in them (`Read`), the options
 //! (`Options`), their settings (`Settings`) and the whole command (`Job`). They go over the list of words, two at a time,
 //! with the options taken so far: how often one was given is counted in that list, and the settings are looked up in it.
-//! `job` answers just `job_of` of its words, or want of memory. So a place is at most 30, and each byte of the words is
+//! `job` answers just `job_of` of its words, or want of memory. So a place is at most 31, and each byte of the words is
 //! read once.
 #![tactic(auto)]
 
 /// The causes of faults in command words, by number.
 pub mod cause;
 mod choice;
+mod command;
 mod error;
 mod jobs;
 mod number;
@@ -38,6 +51,7 @@ mod options;
 mod picks;
 mod setting;
 mod settings;
+mod table;
 mod words;
 
 pub use error::WordError;

@@ -1,6 +1,6 @@
 ghost use Rattle.std.specs.Prelude.{◌≡◌};
 ghost use Rattle.std.specs.Str.{all_ascii_digits};
-ghost use Rattle.gp_words.specs.Numbers.{is_number, number_in};
+ghost use Rattle.gp_words.specs.Numbers.{is_number, number_in, divisor_in};
 
 use gp_isa::limits;
 
@@ -33,4 +33,16 @@ pub(crate) fn number(word: &str, least: u64, most: u64) -> Option<u64>
         return None;
     }
     Some(number)
+}
+
+/// The number that a word writes, where it divides `whole`, from 1 on.
+pub(crate) fn divisor(word: &str, whole: u64) -> Option<u64>
+    ensures { result ≡ divisor_in whole word.now }
+{
+    let number = number(word, 1, whole)?;
+    if whole % number == 0 {
+        Some(number)
+    } else {
+        None
+    }
 }

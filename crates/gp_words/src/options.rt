@@ -3,15 +3,17 @@ ghost use Rattle.std.specs.Option.{option_map};
 ghost use Rattle.gp_words.specs.Words.{texts};
 ghost use Rattle.gp_words.specs.Read.{Reads};
 ghost use Rattle.gp_words.specs.declared.setting.Values.TheVariants.{Instants};
-ghost use Rattle.gp_words.specs.Options.{value_of, times, choice_of, options_of};
+ghost use Rattle.gp_words.specs.Options.{value_of, times, choice_of_setting, choice_of, options_of};
 ghost use Rattle.gp_words.specs.kept.Sound.{IsSound};
 
 use crate::cause::{BAD_NUMBER, MISSING, TWICE, UNKNOWN_OPTION};
 use crate::choice::{Choice, Choices, Value};
+use crate::command::Command;
 use crate::error::WordError;
-use crate::number::number;
+use crate::number::{divisor, number};
 use crate::picks::picks;
 use crate::setting::{Setting, Values};
+use crate::table::setting_of;
 use gp_isa::{Memory, limits};
 use gp_journal::Request;
 use std::alloc::Global;
@@ -39,6 +41,9 @@ fn value(alloc: Global, values: Values, word: &str) -> Result<Option<Value>, Mem
         Values::Numbers { least, most } => {
             Ok(number(word, least, most).map(|number| Value::Number { number }))
         }
+        Values::Divisors { whole } => {
+            Ok(divisor(word, whole).map(|number| Value::Number { number }))
+        }
         Values::Instants => Ok(instant(word)),
         Values::Lists => Ok(picks(alloc, word)?.map(|picks| Value::List { picks })),
     }
@@ -54,18 +59,43 @@ fn times(taken: &[Choice], setting: Setting) -> usize
         .count()
 }
 
+/// The choice of a setting with the word at a place, where there is one.
+fn choice_of_setting(
+    alloc: Global,
+    place: u32,
+    setting: Setting,
+    word: Option<&String>,
+) -> Result<Choice, WordError>
+    ensures { Reads result (choice_of_setting place setting (option_map (λ w. string_bytes w.now) word.entry)) }
+{
+    let Some(word) = word else {
+        return Err(WordError::Usage {
+            place,
+            cause: MISSING,
+        });
+    };
+    match value(alloc, setting.values(), word.as_str())? {
+        Some(value) => Ok(Choice { setting, value }),
+        None => Err(WordError::Usage {
+            place,
+            cause: BAD_NUMBER,
+        }),
+    }
+}
+
 /// The option of a word and the word behind it, where there is one, behind the options taken before.
 fn choice(
     alloc: Global,
+    command: Command,
     taken: &[Choice],
     word: &str,
     value_word: Option<&String>,
 ) -> Result<Choice, WordError>
     requires { IsSound taken.now }
-    ensures { Reads result (choice_of taken.now word.now (option_map (λ w. string_bytes w.now) value_word.entry)) }
+    ensures { Reads result (choice_of command taken.now word.now (option_map (λ w. string_bytes w.now) value_word.entry)) }
 {
-    let place = 2 + 2 * taken.len() as u32;
-    let Some(setting) = Setting::named(word) else {
+    let place = command.first_option() + 2 * taken.len() as u32;
+    let Some(setting) = setting_of(command, word) else {
         return Err(WordError::Usage {
             place,
             cause: UNKNOWN_OPTION,
@@ -77,31 +107,23 @@ fn choice(
             cause: TWICE,
         });
     }
-    let Some(value_word) = value_word else {
-        return Err(WordError::Usage {
-            place: place + 1,
-            cause: MISSING,
-        });
-    };
-    match value(alloc, setting.values(), value_word.as_str())? {
-        Some(value) => Ok(Choice { setting, value }),
-        None => Err(WordError::Usage {
-            place: place + 1,
-            cause: BAD_NUMBER,
-        }),
-    }
+    choice_of_setting(alloc, place + 1, setting, value_word)
 }
 
-/// The options of words, two words each, the first of which is at place 2.
-pub(crate) fn options(alloc: Global, words: &[String]) -> Result<Choices, WordError>
-    ensures options { Reads result (options_of [] (texts words.now)) }
+/// The options of a command's words, two words each, behind those that it takes first.
+pub(crate) fn options(
+    alloc: Global,
+    command: Command,
+    words: &[String],
+) -> Result<Choices, WordError>
+    ensures options { Reads result (options_of command [] (texts words.now)) }
     ensures sound { IfOk result IsSound }
 {
     let mut taken = Choices::new(alloc);
     let mut rest = words.iter();
     while let Some(word) = rest.next() {
         let value_word = rest.next();
-        let choice = choice(alloc, taken.as_slice(), word.as_str(), value_word)?;
+        let choice = choice(alloc, command, taken.as_slice(), word.as_str(), value_word)?;
         taken.push(choice)?;
     }
     Ok(taken)

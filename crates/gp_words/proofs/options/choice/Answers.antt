@@ -1,8 +1,11 @@
-use Rattle.std.proofs.Common.{◌≡◌, ◌+◌, Some, None, sym, ap, ◌∙◌, arith, string_bytes, option_map}
-use Rattle.gp_words.specs.Table.{setting_of, values_of}
-use Rattle.gp_words.specs.Options.{value_of, place_behind, choice_of_setting, choice_at}
+use Rattle.std.proofs.Common.{◌≡◌, ◌+◌, ◌*◌, length, Some, None, sym, ap, ◌∙◌, arith, Bor, String, string_bytes, option_map}
+use Rattle.std.specs.Global.{Global}
+use Rattle.gp_words.specs.Causes.{unknown_option, twice}
+use Rattle.gp_words.specs.Table.{setting_of}
+use Rattle.gp_words.specs.Read.{Faults}
+use Rattle.gp_words.specs.Options.{choice_of_setting}
 use Rattle.gp_words.proofs.Sound.{few}
-use Rattle.gp_words.proofs.Taking.{unknown, given_too_often, allowed}
+use Rattle.gp_words.proofs.Taking.{first_near, unknown, given_too_often, allowed, reads_same}
 use Rattle.gp_words.proofs.options.choice.Goals as goal
 
 pub overflow_cast-place : goal.overflow_cast-place
@@ -12,52 +15,29 @@ pub overflow_mul-place : goal.overflow_mul-place
 overflow_mul-place c = omega (arith, few c.args.taken.now c.requires)
 
 pub overflow_add-place : goal.overflow_add-place
-overflow_add-place c = omega (arith, few c.args.taken.now c.requires)
+overflow_add-place c = omega (arith, few c.args.taken.now c.requires, first_near c.args.command, c.first_option.ensures)
 
-pub overflow_add-result : goal.overflow_add-result
-overflow_add-result c = omega (arith, few c.args.taken.now c.requires)
-
-pub overflow_add-result-in-None : goal.overflow_add-result-in-None
-overflow_add-result-in-None c = omega (arith, few c.args.taken.now c.requires)
+pub overflow_add-place-2 : goal.overflow_add-place-2
+overflow_add-place-2 c = omega (arith, few c.args.taken.now c.requires, first_near c.args.command, c.first_option.ensures)
 
 pub returns-in_default : goal.returns-in_default
 returns-in_default c =
-    let none : setting_of c.args.word.now ≡ None = cc in
-    unknown c.args.taken.now c.args.word.now _ none
+    let taken = c.args.taken.now in
+    let none : setting_of c.args.command c.args.word.now ≡ None = cc in
+    unknown c.args.command taken c.args.word.now _ none ∙ ap (λ n. Faults (n + 2 * length taken) unknown_option) (sym c.first_option.ensures)
 
 pub returns-then-times-most_times : goal.returns-then-times-most_times
 returns-then-times-most_times c =
-    let is : setting_of c.args.word.now ≡ Some c.in-Some.setting = cc in
-    given_too_often c.args.taken.now c.args.word.now _ c.in-Some.setting is (omega arith)
+    let taken = c.args.taken.now in
+    let is : setting_of c.args.command c.args.word.now ≡ Some c.in-Some.setting = cc in
+    given_too_often c.args.command taken c.args.word.now _ c.in-Some.setting is (omega arith) ∙ ap (λ n. Faults (n + 2 * length taken) twice) (sym c.first_option.ensures)
 
-pub returns-in_default-value_word : goal.returns-in_default-value_word
-returns-in_default-value_word c =
+pub returns : goal.returns
+returns c =
     let taken = c.args.taken.now in
     let setting = c.in-Some.setting in
-    let is : setting_of c.args.word.now ≡ Some setting = cc in
-    allowed taken c.args.word.now _ setting is (omega arith)
-    ∙ ap (λ v. choice_of_setting (place_behind taken + 1) setting (option_map (λ w. string_bytes w.now) v)) c.in_default-value_word.is
-
-pub returns-in-Some-2 : goal.returns-in-Some-2
-returns-in-Some-2 c =
-    let taken = c.args.taken.now in
-    let setting = c.in-Some.setting in
-    let is : setting_of c.args.word.now ≡ Some setting = cc in
-    let value : value_of (values_of setting) (string_bytes c.in-Some-value_word.value_word.now) ≡ Some c.in-Some-2.value =
-    ap (λ v. value_of v (string_bytes c.in-Some-value_word.value_word.now)) (sym c.values.ensures)
-    ∙ (ap (value_of c.values.result) (sym c.as_str.ensures.value) ∙ (sym c.in_ok-value.ensures ∙ c.in-Some-2.is)) in
-    allowed taken c.args.word.now _ setting is (omega arith)
-    ∙ (ap (λ v. choice_of_setting (place_behind taken + 1) setting (option_map (λ w. string_bytes w.now) v)) c.in-Some-value_word.is
-    ∙ ap (choice_at (place_behind taken + 1) setting) value)
-
-pub returns-in-None : goal.returns-in-None
-returns-in-None c =
-    let taken = c.args.taken.now in
-    let setting = c.in-Some.setting in
-    let is : setting_of c.args.word.now ≡ Some setting = cc in
-    let value : value_of (values_of setting) (string_bytes c.in-Some-value_word.value_word.now) ≡ None =
-    ap (λ v. value_of v (string_bytes c.in-Some-value_word.value_word.now)) (sym c.values.ensures)
-    ∙ (ap (value_of c.values.result) (sym c.as_str.ensures.value) ∙ (sym c.in_ok-value.ensures ∙ c.in-None.is)) in
-    allowed taken c.args.word.now _ setting is (omega arith)
-    ∙ (ap (λ v. choice_of_setting (place_behind taken + 1) setting (option_map (λ w. string_bytes w.now) v)) c.in-Some-value_word.is
-    ∙ ap (choice_at (place_behind taken + 1) setting) value)
+    let value = option_map (λ (w : Bor (String Global)). string_bytes w.now) c.args.value_word in
+    let is : setting_of c.args.command c.args.word.now ≡ Some setting = cc in
+    reads_same c.choice_of_setting.result _ _
+    (allowed c.args.command taken c.args.word.now value setting is (omega arith) ∙ ap (λ n. choice_of_setting (n + 2 * length taken + 1) setting value) (sym c.first_option.ensures))
+    c.choice_of_setting.ensures

@@ -6,7 +6,7 @@ use Rattle.gp_words.specs.kept.Sound.{IsSound}
 use Rattle.gp_words.proofs.options.options.Given as goal
 
 abbrev pub invariant-loop-word : goal.invariant-loop-word
-invariant-loop-word l = IsSound l.taken × (options_of l.taken (texts (iter_rest l.rest)) ≡ options_of [] (texts l.words))
+invariant-loop-word l = IsSound l.taken × (options_of l.command l.taken (texts (iter_rest l.rest)) ≡ options_of l.command [] (texts l.words))
 
 abbrev pub decreases-loop-word : goal.decreases-loop-word
 decreases-loop-word l = length (iter_rest l.rest)

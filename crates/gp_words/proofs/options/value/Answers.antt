@@ -10,3 +10,7 @@ returns-in-Numbers c = grind (arith, common_steps)
 pub returns-in_ok-picks-in-Lists : goal.returns-in_ok-picks-in-Lists
 unfolding value_of
 returns-in_ok-picks-in-Lists c = grind (arith, common_steps)
+
+pub returns-in-Divisors : goal.returns-in-Divisors
+unfolding value_of
+returns-in-Divisors c = grind (arith, common_steps)

@@ -1,30 +1,22 @@
-use Rattle.std.proofs.Common.{◌≡◌, string_bytes, codes, sym, ap, ◌∙◌}
+use Rattle.std.proofs.Common.{string_bytes, sym, ap, ◌∙◌}
 use Rattle.gp_words.specs.Words.{texts}
-use Rattle.gp_words.specs.Job.{sim_of, job_of}
-use Rattle.gp_words.proofs.Commands.{job_none, job_unknown, job_sim, reads_ok, reads_file, reads_fault}
+use Rattle.gp_words.specs.Job.{said_by, job_of}
+use Rattle.gp_words.proofs.Commands.{job_none, job_words, reads_ok, reads_fault}
 use Rattle.gp_words.proofs.words.job.Goals as goal
-use Rattle.gp_words.proofs.words.job.Goals.{After-sim}
 
-pub returns-in_default-clause-usage : goal.returns-in_default-clause-usage
-returns-in_default-clause-usage c = job_none c.args.words.now c.in_default.ensures.cases
+pub returns-in-None-clause-usage : goal.returns-in-None-clause-usage
+returns-in-None-clause-usage c = job_none c.args.words.now c.in-None.ensures.cases
 
-pub returns-in_default-as_str-clause-usage : goal.returns-in_default-as_str-clause-usage
-returns-in_default-as_str-clause-usage c =
-    let command = string_bytes c.in-Some.command.now in
-    ap (λ ws. job_of (texts ws)) c.in-Some.ensures.cases.0
-    ∙ job_unknown command (texts c.in-Some.after.now) (λ e. c.in_default-as_str.not-sim (c.as_str.ensures.value ∙ e))
+pub returns-in-Some-clause-ok : goal.returns-in-Some-clause-ok
+returns-in-Some-clause-ok c =
+    let words = texts c.in-Some.after.now in
+    reads_ok c.said_by.result (job_of (texts c.args.words.now)) (said_by c.as_str.result.now words)
+    (ap (λ ws. job_of (texts ws)) c.in-Some.ensures.cases.0 ∙ (job_words (string_bytes c.in-Some.command.now) words ∙ ap (λ w. said_by w words) (sym c.as_str.ensures.value)))
+    c.said_by.ensures.said
 
--- the words say what those after `sim` do
-after_sim : (c : After-sim) → job_of (texts c.args.words.now) ≡ sim_of (texts c.in-Some.after.now)
-after_sim c =
-    let is : string_bytes c.in-Some.command.now ≡ codes "sim" = sym c.as_str.ensures.value ∙ c.in-sim.is in
-    ap (λ ws. job_of (texts ws)) c.in-Some.ensures.cases.0 ∙ job_sim (string_bytes c.in-Some.command.now) (texts c.in-Some.after.now) is
-
-pub returns-in-sim-clause-ok : goal.returns-in-sim-clause-ok
-returns-in-sim-clause-ok c = reads_ok c.sim.result (job_of (texts c.args.words.now)) (sim_of (texts c.in-Some.after.now)) (after_sim c) c.sim.ensures.job
-
-pub returns-in-sim-clause-file : goal.returns-in-sim-clause-file
-returns-in-sim-clause-file c = reads_file c.sim.result (texts c.in-Some.after.now) c.sim.ensures.job
-
-pub returns-in-sim-clause-usage : goal.returns-in-sim-clause-usage
-returns-in-sim-clause-usage c = reads_fault c.sim.result (job_of (texts c.args.words.now)) (sim_of (texts c.in-Some.after.now)) (after_sim c) c.sim.ensures.job
+pub returns-in-Some-clause-usage : goal.returns-in-Some-clause-usage
+returns-in-Some-clause-usage c =
+    let words = texts c.in-Some.after.now in
+    reads_fault c.said_by.result (job_of (texts c.args.words.now)) (said_by c.as_str.result.now words)
+    (ap (λ ws. job_of (texts ws)) c.in-Some.ensures.cases.0 ∙ (job_words (string_bytes c.in-Some.command.now) words ∙ ap (λ w. said_by w words) (sym c.as_str.ensures.value)))
+    c.said_by.ensures.said
