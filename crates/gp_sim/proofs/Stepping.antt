@@ -25,11 +25,11 @@ use Rattle.gp_journal.specs.Run.{last}
 use Rattle.gp_journal.specs.Reached.{IsReached}
 use Rattle.gp_journal.specs.Shown.{IsPointOf}
 use Rattle.gp_journal.proofs.Lemmas.{after_all-append, behind_parts, leaves_bodies, first_bodies, stays, follows_run, op_bears, has_body, runner_live, run_ahead, op_at_shared, point_is, row_is, bodies_follow, bodies_gain, nobody_born, appended}
-use Rattle.gp_journal.specs.Bodies.{nowhere, AreBodiesOf, further, moved_on, followed, gained}
+use Rattle.gp_journal.specs.Bodies.{nowhere, standing, AreBodiesOf, further, moved_on, followed, gained}
 use Rattle.gp_machine.specs.declared.at_point.AtPoint.{AtPoint}
 use Rattle.gp_machine.specs.declared.at_point.AtPoint.TheVariants.{Bears}
 use Rattle.gp_machine.specs.AtPoint.{at_point}
-use Rattle.gp_history.specs.History.{LeavesProfiles}
+use Rattle.gp_history.specs.History.{IsPlain}
 use Rattle.gp_sim.specs.kept.Bodies.{gone_on, joined}
 use Rattle.gp_sim.specs.kept.Simulation.{IsSimulation, IsQuiet, BearsNobody}
 
@@ -44,11 +44,16 @@ quiet_stays (Refuse room n) quiet = refl
 quiet_stays (Record actor g) quiet = absurd quiet
 quiet_stays (Close epoch) quiet = absurd quiet
 
-pub quiet_leaves : (entry : Entry) → IsQuiet entry → LeavesProfiles entry
-quiet_leaves (Open epoch room) quiet = quiet
-quiet_leaves (Record actor g) quiet = quiet
-quiet_leaves (Close epoch) quiet = quiet
-quiet_leaves entry quiet = tt
+pub quiet_plain : (entry : Entry) → IsQuiet entry → IsPlain entry
+quiet_plain (Start w g) quiet = tt
+quiet_plain (Run w g n) quiet = tt
+quiet_plain (Op w g) quiet = quiet
+quiet_plain (Tick w g) quiet = tt
+quiet_plain (Park w g) quiet = tt
+quiet_plain (Open epoch room) quiet = quiet
+quiet_plain (Refuse room n) quiet = tt
+quiet_plain (Record actor g) quiet = quiet
+quiet_plain (Close epoch) quiet = quiet
 
 -- what is told of a point is what the answer tells
 pub gone_on_is : (g : ℕ) (answer : Applied) (bodies : List Progress) → gone_on g (at_point answer) bodies ≡ followed g answer bodies
@@ -105,6 +110,9 @@ module _ (program : Parts) (settings : Settings) (journal : List Entry) (bodies 
 
   pub at_shared : (w g : ℕ) → May (code_of program) settings now (Op w g) → IsAtShared (trace program (get_or bodies g nowhere).start) (get_or bodies g nowhere).count
   at_shared w g may = op_at_shared program settings now here it.in_range bodies it.its_bodies w g may
+
+  pub runner_stands : (w g : ℕ) → (worker now w).runs ≡ Some g → get_or bodies g nowhere ≡ standing (goroutine now g)
+  runner_stands w g runs = it.its_bodies.live g (runner_live program settings now here it.in_range bodies it.its_bodies w g runs)
 
   -- the point that a body shows is the goroutine's
   pub point_told : (w g : ℕ) (point : SharedPoint) → May (code_of program) settings now (Op w g) →

@@ -1,6 +1,6 @@
-ghost use Rattle.std.specs.Prelude.{◌≡◌, ◌<◌, ◌≤◌, ◌+◌, ◌++◌, ◌∷◌, [], length, get_or, min, IfOk};
+ghost use Rattle.std.specs.Prelude.{◌≡◌, ◌<◌, ◌≤◌, ◌+◌, ◌++◌, ◌∷◌, [], false, length, get_or, take, min, IfOk};
 ghost use Rattle.gp_isa.specs.Trace.{trace};
-ghost use Rattle.gp_stack.specs.Body.{progress_of, StandsIn, IsAtShared};
+ghost use Rattle.gp_stack.specs.Body.{progress_of, stack_at, is_over_at, StandsIn, IsAtShared};
 ghost use Rattle.gp_stack.specs.Goroutine.{labels_of, local_ahead};
 ghost use Rattle.gp_stack.specs.Peek.{then_at};
 ghost use Rattle.gp_stack.specs.Record.{record_of};
@@ -9,7 +9,7 @@ ghost use Rattle.gp_sim.specs.kept.Bodies.{Shows, gone_on, joined};
 
 use gp_isa::{Memory, Program};
 use gp_machine::{AtPoint, Run, Settings, SharedPoint};
-use gp_stack::{Body, Peek, Record, Then};
+use gp_stack::{Body, Peek, Record, Stack, Then};
 use std::alloc::Global;
 use std::marker::{Model, PhantomData};
 
@@ -150,6 +150,22 @@ impl<R: Run> Bodies<R> {
             AtPoint::Passes => {}
             AtPoint::Stays => {}
         }
+    }
+
+    /// The stack of g, whose trace isn't ended, cut to so many frames. It takes no memory for none.
+    pub fn stack(
+        &self,
+        alloc: Global,
+        program: &Program,
+        g: u32,
+        frames: u32,
+    ) -> Result<Stack, Memory>
+        requires program { program.now ≡ R.program }
+        requires born { g < length self.now }
+        requires going { is_over_at R.program (get_or self.now g nowhere) ≡ false }
+        ensures { IfOk result (λ stack. stack ≡ take frames (stack_at R.program (get_or self.now g nowhere))) }
+    {
+        self.bodies[g as usize].stack(alloc, program, frames)
     }
 
     /// The record of g.

@@ -4,6 +4,8 @@ ghost use Rattle.gp_journal.specs.NumberLaws.{most_entries};
 ghost use Rattle.gp_journal.specs.State.{code_of};
 ghost use Rattle.gp_journal.specs.Run.{IsFinished};
 ghost use Rattle.gp_journal.specs.Profiles.{records_of, AreFrozen};
+ghost use Rattle.gp_events.specs.Sums.{sums};
+ghost use Rattle.gp_history.specs.Events.{block_events, mutex_events};
 ghost use Rattle.gp_sim.specs.Choice.{sim_journal};
 ghost use Rattle.gp_sim.specs.kept.Simulation.{next_turn, TakesTurn};
 
@@ -11,6 +13,7 @@ use crate::actions::{Step, next_step};
 use crate::bodies::{Bodies, newborn};
 use crate::numbers::Numbers;
 use crate::simulation::Simulation;
+use gp_events::Buckets;
 use gp_history::{History, HistoryParts};
 use gp_isa::{Memory, Program};
 use gp_machine::{Machine, Run, Settings};
@@ -23,6 +26,10 @@ pub struct Simulated<R: Run> {
     pub machine: Machine<R>,
     /// The records of each profile, by epoch.
     pub records: Profiles,
+    /// The sums of the block events.
+    pub block: Buckets,
+    /// The sums of the mutex events.
+    pub mutex: Buckets,
     /// How many turns it took, the last of which found that nobody can act.
     pub turns: u64,
 }
@@ -76,13 +83,22 @@ impl<R: Run> Simulation<R> {
     fn end(self, turns: u64) -> Simulated<R>
         ensures machine { result.machine ≡ self.journal }
         ensures records { result.records ≡ records_of (code_of R.program) R.settings self.journal }
+        ensures block { result.block ≡ sums (block_events (code_of R.program) R.settings self.journal) }
+        ensures mutex { result.mutex ≡ sums (mutex_events (code_of R.program) R.settings self.journal) }
         ensures turns { result.turns ≡ turns }
     {
         let Simulation { history, .. } = self;
-        let HistoryParts { machine, records } = history.into_parts();
+        let HistoryParts {
+            machine,
+            records,
+            block,
+            mutex,
+        } = history.into_parts();
         Simulated {
             machine,
             records,
+            block,
+            mutex,
             turns,
         }
     }
@@ -101,6 +117,8 @@ pub fn simulate<R: Run>(
     ensures finished { IfOk result (λ s. IsFinished (code_of R.program) R.settings s.machine) }
     ensures records { IfOk result (λ s. s.records ≡ records_of (code_of R.program) R.settings s.machine) }
     ensures frozen { IfOk result (λ s. AreFrozen (code_of R.program) R.settings s.machine s.records) }
+    ensures block { IfOk result (λ s. s.block ≡ sums (block_events (code_of R.program) R.settings s.machine)) }
+    ensures mutex { IfOk result (λ s. s.mutex ≡ sums (mutex_events (code_of R.program) R.settings s.machine)) }
     ensures entries { IfOk result (λ s. length s.machine ≤ most_entries R.settings) }
     ensures turns { IfOk result (λ s. s.turns ≡ length s.machine + 1) }
 {

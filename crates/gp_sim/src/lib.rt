@@ -8,7 +8,8 @@
 //! of the generator PCG32 at the option's seed, on stream 1. Where nobody can act the run is complete.
 //!
 //! So the journal is a function of program and options (`specs/Choice.antt`, `sim_journal`), and `simulate` gives just
-//! that journal, with the records of each profile, and the number of turns: one more than there are entries.
+//! that journal, with the records of each profile, the sums of its block and mutex events, and the number of turns: one more
+//! than there are entries.
 //! `law_choice`: what may be chosen is legal, and the journal that the choice gives is finished.
 //!
 //! `simulate` keeps the run's `History`, the numbers, and a body for each goroutine that was born (`Bodies`), which
@@ -23,10 +24,10 @@
 //! the same, and a profile is active              they and the profiler can     5 % 4 = 1, so worker 1 acts
 //! ```
 //!
-//! Then the turn changes what is kept in place: it first makes what takes memory, the copy of a stack for a Record and the
-//! body of whoever is born, and where memory is refused all is as before. Its time doesn't grow with the number of
-//! goroutines, and with that of workers only as one of those that run is found by its place; a Record takes time by the
-//! frames that it copies.
+//! Then the turn changes what is kept in place: it first makes what takes memory, the copy of a stack for a Record or for an
+//! event that is kept, and the body of whoever is born, and where memory is refused all is as before. Its time doesn't grow
+//! with the number of goroutines, and with that of workers only by a bit of a word for each that runs before the one that
+//! acts; a Record or an event takes time by the frames that it copies.
 #![tactic(auto)]
 
 mod actions;

@@ -1,18 +1,51 @@
-ghost use Rattle.std.specs.Prelude.{◌≡◌, ◌++◌, ◌∷◌, [], OnOk, OnErr};
-ghost use Rattle.gp_journal.specs.State.{code_of};
+ghost use Rattle.std.specs.Prelude.{◌≡◌, ◌<◌, ◌++◌, ◌∷◌, [], length, get_or, IfOk, OnOk, OnErr};
+ghost use Rattle.gp_isa.specs.Trace.{trace};
+ghost use Rattle.gp_stack.specs.Body.{IsAtShared};
+ghost use Rattle.gp_journal.specs.State.{code_of, goroutine};
 ghost use Rattle.gp_journal.specs.May.{May};
 ghost use Rattle.gp_journal.specs.Run.{state_of};
 ghost use Rattle.gp_journal.specs.Shown.{IsPointOf, IsGiven};
+ghost use Rattle.gp_journal.specs.Answer.{applied};
+ghost use Rattle.gp_journal.specs.Bodies.{nowhere, standing};
+ghost use Rattle.gp_machine.specs.AtPoint.{at_point};
 ghost use Rattle.gp_journal.specs.declared.entry.Entry.TheVariants as entry;
 ghost use Rattle.gp_stack.specs.declared.statement.Operation.TheVariants as operation;
 ghost use Rattle.gp_sim.specs.kept.Simulation.{IsQuiet, BearsNobody};
 
-use crate::bodies::newborn;
+use crate::bodies::{Bodies, newborn};
 use crate::simulation::Simulation;
+use gp_history::History;
 use gp_isa::{Memory, Program};
-use gp_machine::{Entry, Run, Settings, SharedPoint};
+use gp_machine::{AtPoint, Entry, Run, Settings, SharedPoint};
 use gp_stack::Operation;
 use std::alloc::Global;
+
+// Makes the Op of g, whose body stands at its next point, a shared one, on w. What it leaves for the profiles of waits goes
+// with a copy of that stack, which is made first; no copy is made where it leaves nothing.
+fn come_to<R: Run>(
+    history: &mut History<R>,
+    bodies: &Bodies<R>,
+    alloc: Global,
+    program: &Program,
+    w: u32,
+    g: u32,
+    point: SharedPoint,
+) -> Result<AtPoint, Memory>
+    requires program { program.now ≡ R.program }
+    requires may { May (code_of R.program) R.settings (state_of R.program R.settings history.old) (entry.Op w g) }
+    requires point { IsPointOf (code_of R.program) (state_of R.program R.settings history.old) g point }
+    requires born { g < length bodies.now }
+    requires shared { let p = get_or bodies.now g nowhere in IsAtShared (trace R.program p.start) p.count }
+    requires stands { get_or bodies.now g nowhere ≡ standing (goroutine (state_of R.program R.settings history.old) g) }
+    ensures journal { OnOk result (history.new ≡ history.old ++ entry.Op w g ∷ []) }
+    ensures at_point { IfOk result (λ at. at
+        ≡ at_point (applied (code_of R.program) R.settings (state_of R.program R.settings history.old) (entry.Op w g))) }
+    ensures err { OnErr result (history.new ≡ history.old) }
+{
+    let event = history.foresee(w, point.operation);
+    let stack = bodies.stack(alloc, program, g, event.frames())?;
+    history.operate(w, g, point, event, stack)
+}
 
 impl<R: Run> Simulation<R> {
     // Makes an entry by which no body moves, and no profile begins, grows or ends.
@@ -21,7 +54,7 @@ impl<R: Run> Simulation<R> {
         requires quiet { IsQuiet made }
         ensures { self.new ≡ record self.old { journal = self.old.journal ++ made ∷ [] } }
     {
-        self.history.make(made, None);
+        self.history.enter(made);
     }
 
     fn open(&mut self, epoch: u32, room: u32)
@@ -44,7 +77,7 @@ impl<R: Run> Simulation<R> {
         requires may { May (code_of R.program) R.settings (state_of R.program R.settings self.old.journal) (entry.Run w g n) }
         ensures { self.new ≡ record self.old { journal = self.old.journal ++ entry.Run w g n ∷ [] } }
     {
-        self.history.make(Entry::Run { w, g, n }, None);
+        self.history.enter(Entry::Run { w, g, n });
         self.bodies.advance(program, g, n);
     }
 
@@ -61,15 +94,24 @@ impl<R: Run> Simulation<R> {
     }
 
     // g comes to its next point, at which nobody can be born, on w.
-    fn operate(&mut self, program: &Program, w: u32, g: u32, point: SharedPoint)
+    fn operate(
+        &mut self,
+        alloc: Global,
+        program: &Program,
+        w: u32,
+        g: u32,
+        point: SharedPoint,
+    ) -> Result<(), Memory>
         requires program { program.now ≡ R.program }
         requires may { May (code_of R.program) R.settings (state_of R.program R.settings self.old.journal) (entry.Op w g) }
         requires point { IsPointOf (code_of R.program) (state_of R.program R.settings self.old.journal) g point }
         requires nobody { BearsNobody R.settings (state_of R.program R.settings self.old.journal) point }
-        ensures { self.new ≡ record self.old { journal = self.old.journal ++ entry.Op w g ∷ [] } }
+        ensures ok { OnOk result (self.new ≡ record self.old { journal = self.old.journal ++ entry.Op w g ∷ [] }) }
+        ensures err { OnErr result (self.new ≡ self.old) }
     {
-        let at = self.history.make(Entry::Op { w, g }, Some(point));
+        let at = come_to(&mut self.history, &self.bodies, alloc, program, w, g, point)?;
         self.bodies.follow(program, g, at);
+        Ok(())
     }
 
     // g comes to its next point, a spawn of f, on w. The body of whoever may be born there is made first.
@@ -92,7 +134,7 @@ impl<R: Run> Simulation<R> {
         // (it has no effect, but tells that the program lies in its limits)
         let _ = program.parts();
         let born = newborn(alloc, program, f, point.labels)?;
-        let at = self.history.make(Entry::Op { w, g }, Some(point));
+        let at = come_to(&mut self.history, &self.bodies, alloc, program, w, g, point)?;
         self.bodies.follow(program, g, at);
         self.bodies.gain(at, born);
         Ok(())
@@ -120,8 +162,7 @@ impl<R: Run> Simulation<R> {
                 return self.spawn(alloc, program, w, g, point, f);
             }
         }
-        self.operate(program, w, g, point);
-        Ok(())
+        self.operate(alloc, program, w, g, point)
     }
 
     /// Makes an entry that may come, with the next point of its goroutine where it is an Op. What takes memory is made

@@ -1,4 +1,5 @@
-use Rattle.std.proofs.Common.{length, sym, ap, ◌∙◌, subst, arith}
+use Rattle.std.proofs.Common.{◌+◌, List, length, sym, ap, ◌∙◌, subst, arith}
+use Rattle.gp_journal.specs.declared.entry.Entry.{Entry}
 use Rattle.gp_journal.specs.Settings.{AreInRange}
 use Rattle.gp_journal.specs.State.{code_of}
 use Rattle.gp_journal.proofs.Lemmas.{records_are_frozen}
@@ -45,3 +46,10 @@ returns-clause-frozen g c =
     let ended = took_none (code_of g.R.Run.program) g.R.Run.settings c.loop-simulation.simulation c.turn.new.self c.in_ok-turn.field-0 range c.loop-simulation.invariant.part c.in_ok-turn.ensures.turn c.if-branch.false in
     rw (c.end.ensures.machine, c.end.ensures.records, ended.same)
     (records_are_frozen (code_of g.R.Run.program) g.R.Run.settings c.loop-simulation.simulation.journal ended.finished.legal ended.finished.complete.none_active)
+
+pub returns-clause-turns : goal.returns-clause-turns
+returns-clause-turns g c =
+    let range = subst AreInRange c.requires.settings c.requires.range in
+    let ended = took_none (code_of g.R.Run.program) g.R.Run.settings c.loop-simulation.simulation c.turn.new.self c.in_ok-turn.field-0 range c.loop-simulation.invariant.part c.in_ok-turn.ensures.turn c.if-branch.false in
+    let same = c.end.ensures.machine ∙ ap (λ (s : SoFar). s.journal) ended.same in
+    c.end.ensures.turns ∙ c.loop-simulation.invariant.counted ∙ sym (ap (λ (j : List Entry). length j + 1) same)

@@ -18,4 +18,4 @@ pub invariant_of-self : goal.invariant_of-self
 invariant_of-self g c =
     let j = ap (λ (s : SoFar). s.journal) c.self.view_is in
     let was = subst (λ (s : SoFar). IsSimulation (code_of g.R.Run.program) g.R.Run.settings s.journal c.self.inside.bodies) c.self.view_is c.self.invariant in
-    rw (c.make.ensures.journal, c.advance.ensures, j) (ran g.R.Run.program g.R.Run.settings c.args.self.now.journal c.self.inside.bodies was c.args.w c.args.g c.args.n c.requires.may)
+    rw (c.enter.ensures.journal, c.advance.ensures, j) (ran g.R.Run.program g.R.Run.settings c.args.self.now.journal c.self.inside.bodies was c.args.w c.args.g c.args.n c.requires.may)
