@@ -4,7 +4,8 @@ use Rattle.std.proofs.lemmas.List.{append-nil, take_more, map-append}
 use Rattle.std.proofs.lemmas.List.Concat.{flat_map-append}
 use Rattle.std.specs.List.{flat_map}
 use Rattle.gp_wire.specs.Varint.{varint}
-use Rattle.gp_wire.specs.Field.{Field, field_bytes, spelled}
+use Rattle.gp_wire.specs.declared.field.Field.{Field}
+use Rattle.gp_wire.specs.Field.{field_bytes, spelled}
 use Rattle.gp_wire.specs.Canonical.{packed}
 
 pub spelled-nil : spelled [] ≡ []

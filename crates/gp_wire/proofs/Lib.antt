@@ -1,2 +1,12 @@
 pub mod VarintLemmas
 pub mod FieldLemmas
+pub mod FrontLemmas
+pub mod GroupLemmas
+pub mod PieceLemmas
+pub mod PackedLemmas
+pub mod MessageLemmas
+pub mod IdLemmas
+pub mod SpellLemmas
+pub mod SegmentLemmas
+pub mod AgainLemmas
+pub mod RoundTripLemmas

@@ -2,6 +2,8 @@
 use Rattle.std.specs.Prelude.{ℕ, zero, suc, ℤ, List, [], ◌∷◌, ◌++◌, map, Option, Some, None}
 use Rattle.std.specs.List.{flat_map}
 use Rattle.std.specs.Int.{w64, cast_unsigned}
+use Rattle.gp_wire.specs.declared.field.Field.{Field}
+use Rattle.gp_wire.specs.declared.field.Value.TheVariants.{Number, Part}
 use Rattle.gp_wire.specs.declared.profile.Function.{Function}
 use Rattle.gp_wire.specs.declared.profile.Label.{Label}
 use Rattle.gp_wire.specs.declared.profile.Line.{Line}
@@ -10,7 +12,7 @@ use Rattle.gp_wire.specs.declared.profile.Profile.{Profile}
 use Rattle.gp_wire.specs.declared.profile.Sample.{Sample}
 use Rattle.gp_wire.specs.declared.profile.ValueType.{ValueType}
 use Rattle.gp_wire.specs.Varint.{varint}
-use Rattle.gp_wire.specs.Field.{Field, Number, Part, spelled}
+use Rattle.gp_wire.specs.Field.{spelled}
 
 -- an int64 as the wire has it: a negative one is its two's complement in 64 bits
 abbrev pub twos_complement : ℤ → ℕ

@@ -3,6 +3,7 @@ ghost use Rattle.std.specs.List.{flat_map};
 ghost use Rattle.gp_wire.specs.Varint.{varint};
 ghost use Rattle.gp_wire.specs.Field.{spelled};
 ghost use Rattle.gp_wire.specs.Canonical.{twos_complement, scalar, signed, part as one_part, packed};
+ghost use Rattle.gp_wire.specs.Messages.{int64_of};
 
 use gp_isa::Memory;
 
@@ -67,28 +68,46 @@ pub fn put_part(out: &mut Vec<u8>, number: u32, part: &[u8]) -> Result<(), Memor
     Ok(())
 }
 
-/// A number of a packed field, which the wire has as a varint.
+/// A number that the wire has as a varint.
 pub trait Word: Copy {
     /// The number without a sign.
     ghost word: { Self → ℕ };
 
+    /// The number that it stands for.
+    ghost of_word: { ℕ → Self };
+
     fn word(self) -> u64
         ensures { result ≡ word self };
+
+    fn of_word(bits: u64) -> Self
+        ensures { result ≡ of_word bits };
 }
 
 impl Word for u64 {
     ghost word = { λ n. n };
 
+    ghost of_word = { λ n. n };
+
     fn word(self) -> u64 {
         self
+    }
+
+    fn of_word(bits: u64) -> u64 {
+        bits
     }
 }
 
 impl Word for i64 {
     ghost word = { twos_complement };
 
+    ghost of_word = { int64_of };
+
     fn word(self) -> u64 {
         self.cast_unsigned()
+    }
+
+    fn of_word(bits: u64) -> i64 {
+        bits.cast_signed()
     }
 }
 

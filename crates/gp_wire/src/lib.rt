@@ -17,12 +17,26 @@
 //! the spelling of a list of fields (`specs/Field`, `specs/Varint`).
 #![tactic(auto)]
 
+mod cause;
+mod decoding;
 mod encoding;
+mod error;
+mod field;
+mod front;
+mod laws;
 mod layout;
+mod merge;
 mod message;
+mod packed;
 mod profile;
+mod taking;
+mod whole;
 mod writing;
 
+pub use cause::Cause;
+pub use decoding::decode;
+pub use error::WireError;
+pub use laws::law_round_trip;
 pub use profile::{
     Function, Functions, Label, Labels, Line, Lines, Location, Locations, Profile, Sample, Samples,
     Strings, ValueType, ValueTypes, Values, Words,

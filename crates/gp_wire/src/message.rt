@@ -1,5 +1,6 @@
 ghost use Rattle.std.specs.Prelude.{◌≡◌, List, [], ◌∷◌, ◌++◌, OnOk};
-ghost use Rattle.gp_wire.specs.Field.{Field, spelled};
+ghost use Rattle.gp_wire.specs.declared.field.Field.{Field};
+ghost use Rattle.gp_wire.specs.Field.{spelled};
 ghost use Rattle.gp_wire.specs.Canonical.{part as one_part, texts as text_fields, messages as message_fields, optional};
 
 use crate::encoding::put_part;
