@@ -7,3 +7,5 @@ pub mod Comparing
 pub mod Counts
 pub mod Steps
 pub mod Total
+pub mod Spelling
+pub mod Ids

@@ -23,10 +23,10 @@ itself Greater e = cc
 pub name_itself : (name : List ℕ) → slice_cmp nat_cmp name name ≡ Equal
 name_itself name = itself (slice_cmp nat_cmp name name) (nat_list_cmp_total.antisymm name name)
 
-frame_total : (parts : Parts) → IsTotalOrder (frame_cmp parts)
+pub frame_total : (parts : Parts) → IsTotalOrder (frame_cmp parts)
 frame_total parts = then_total (on_total (λ (frame : Frame). (function_of parts frame.function).name) nat_list_cmp_total) (on_total (λ (frame : Frame). frame.line) nat_cmp_total)
 
-pair_total : IsTotalOrder pair_cmp
+pub pair_total : IsTotalOrder pair_cmp
 pair_total = then_total (on_total (λ (pair : Pair). pair.key) nat_list_cmp_total) (on_total (λ (pair : Pair). pair.value) nat_list_cmp_total)
 
 shown_total : (parts : Parts) → IsTotalOrder (shown_cmp parts)

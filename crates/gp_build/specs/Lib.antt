@@ -7,6 +7,10 @@ pub mod Message
 pub mod Shown
 pub mod Samples
 pub mod Profile
+-- The block and mutex profiles of sums of waits.
+pub mod Contention
+-- What a profile means.
+pub mod Meant
 -- What is kept in between, and proofs that members of impls cite. No public contract rests on either.
 pub mod kept
 pub mod laws

@@ -1,6 +1,7 @@
 ghost use Rattle.std.specs.Prelude.{◌≡◌, IfOk};
 ghost use Rattle.gp_build.specs.Message.{profile_of, profile_with};
 
+use crate::lines::Lines;
 use crate::messages;
 use crate::sample::{Header, StackSample};
 use crate::tables::Tables;
@@ -16,6 +17,7 @@ fn from_tables<'a>(
     header: &'a Header,
     samples: &'a [StackSample],
     all: &Tables<'a>,
+    lines: &Lines,
 ) -> Result<Profile, Memory>
     ensures { let t = all.now in
         IfOk result (λ profile. profile ≡ profile_with parts.now file.now header.now samples.now
@@ -23,7 +25,7 @@ fn from_tables<'a>(
 {
     Ok(Profile {
         sample_types: messages::kinds(alloc, &all.strings, header.types.as_slice())?,
-        samples: messages::samples(alloc, parts, &all.strings, &all.locations, samples)?,
+        samples: messages::samples(alloc, parts, &all.strings, &all.locations, lines, samples)?,
         locations: messages::locations(alloc, &all.locations, &all.functions)?,
         functions: messages::functions(alloc, parts, file, &all.strings, &all.functions)?,
         strings: messages::strings(alloc, &all.strings)?,
@@ -46,6 +48,7 @@ pub fn profile<'a>(
     ensures { IfOk result (λ profile. profile ≡ profile_of program.now file.now header.now samples.now) }
 {
     let parts = program.parts();
-    let all = Tables::new(alloc, parts, file, header, samples)?;
-    from_tables(alloc, parts, file, header, samples, &all)
+    let mut lines = Lines::new(alloc, parts)?;
+    let all = Tables::new(alloc, parts, file, header, samples, &mut lines)?;
+    from_tables(alloc, parts, file, header, samples, &all, &lines)
 }

@@ -1,11 +1,8 @@
 ghost use Rattle.std.specs.Prelude.{◌≡◌};
 ghost use Rattle.std.specs.Cmp.Lexicographic.{slice_cmp};
-ghost use Rattle.gp_build.specs.Shown.{frame_cmp, pair_cmp, shown_cmp};
-ghost use Rattle.gp_build.specs.Samples.{group_cmp};
+ghost use Rattle.gp_build.specs.Shown.{frame_cmp, pair_cmp};
 
 use crate::lookup::function_name;
-use crate::samples::Group;
-use crate::shown::Shown;
 use gp_isa::{Frame, Pair, Parts};
 use std::cmp::Ordering;
 
@@ -30,7 +27,8 @@ fn compare_pairs(a: &Pair, b: &Pair) -> Ordering
     }
 }
 
-fn compare_stacks(parts: &Parts, a: &[Frame], b: &[Frame]) -> Ordering
+/// Frame by frame from the leaf, a proper prefix first.
+pub(crate) fn compare_stacks(parts: &Parts, a: &[Frame], b: &[Frame]) -> Ordering
     ensures { result ≡ slice_cmp (frame_cmp parts.now) a.now b.now }
 {
     for (x, y) in a.iter().zip(b) {
@@ -42,7 +40,8 @@ fn compare_stacks(parts: &Parts, a: &[Frame], b: &[Frame]) -> Ordering
     a.len().cmp(&b.len())
 }
 
-fn compare_labels(a: &[Pair], b: &[Pair]) -> Ordering
+/// Pair by pair, a proper prefix first.
+pub(crate) fn compare_labels(a: &[Pair], b: &[Pair]) -> Ordering
     ensures { result ≡ slice_cmp pair_cmp a.now b.now }
 {
     for (x, y) in a.iter().zip(b) {
@@ -52,23 +51,4 @@ fn compare_labels(a: &[Pair], b: &[Pair]) -> Ordering
         }
     }
     a.len().cmp(&b.len())
-}
-
-fn compare_shown(parts: &Parts, a: &Shown, b: &Shown) -> Ordering
-    ensures { result ≡ shown_cmp parts.now a.now b.now }
-{
-    match compare_stacks(parts, a.stack(), b.stack()) {
-        Ordering::Equal => compare_labels(a.labels(), b.labels()),
-        order => order,
-    }
-}
-
-/// The order of samples: falling count, then stack, then labels.
-pub(crate) fn compare(parts: &Parts, a: &Group, b: &Group) -> Ordering
-    ensures { result ≡ group_cmp parts.now a.now b.now }
-{
-    match b.count.cmp(&a.count) {
-        Ordering::Equal => compare_shown(parts, &a.shown, &b.shown),
-        order => order,
-    }
 }

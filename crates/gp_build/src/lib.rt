@@ -26,15 +26,19 @@
 //! need: texts, from 0, the empty one first; locations, one for each site, and functions, from 1 (`tables`, over the
 //! keys of `need` and `site`). A site is a line of a function, and that function one of the program or the one that
 //! stands for lost events. All messages name texts, locations and functions by their numbers (`messages`). A site that
-//! was there needs nothing more, and most are found where their function was met last, without a hash (`recent`).
+//! was there needs nothing more, and it is found by its line, without a hash (`lines`).
 //!
 //! **Goroutines.** Records are counted: those that show one stack with equal labels make one sample, whose value is
 //! their number (`samples`, over the keys of `shown`). The samples are put in order, falling value, then stack, then
-//! labels (`compare`).
+//! labels (`compare`). Stacks that stand near one another in order begin with the same frames, so most comparisons look at
+//! numbers of blocks of frames and at the frames of one block (`spelled`).
+//!
+//! **Block and mutex.** The sums of waits come in their order (`gp_events`), and each makes a sample of two values, how many
+//! waits there were and how many nanoseconds they took, each at most 2^63 - 1 (`contention`): [`contention_profile`].
 //!
 //! The profile that has to come out is a definition over lists: any profile in `specs/Message.antt`, where a number is
 //! a place in the list of what was seen first (`specs/FirstNeed.antt`, `specs/Numbers.antt`); the goroutine profile in
-//! `specs/Profile.antt`, where groups are filters and counts and an order is insertion one by one
+//! `specs/Profile.antt`, that of sums in `specs/Contention.antt`; groups are filters and counts and an order is insertion one by one
 //! (`specs/Samples.antt`). The code has maps in insertion order and one stable sort, so its time grows with the number
 //! of records and sites, and that of the sort besides.
 //!
@@ -44,18 +48,27 @@
 
 mod building;
 mod compare;
+mod contention;
 mod goroutine;
+mod lines;
 mod lookup;
+mod means;
+mod meant;
 mod messages;
 mod need;
-mod recent;
 mod sample;
 mod samples;
 mod shown;
 mod site;
+mod spelled;
 mod tables;
 
 pub use building::profile;
+pub use contention::contention_profile;
 pub use goroutine::goroutine_profile;
+pub use means::meaning;
+pub use meant::{
+    Meaning, MeantFrame, MeantFrames, MeantLabel, MeantLabels, MeantSample, MeantSamples,
+};
 pub use sample::{Header, Kind, Kinds, StackSample};
 pub use site::{Routine, Site, Sites};

@@ -5,9 +5,9 @@ ghost use Rattle.gp_build.specs.Numbers as numbers;
 ghost use Rattle.gp_build.specs.Numbers.{string_number, text_of};
 ghost use Rattle.gp_build.specs.Message.{type_of, period_type_of, label_of, sample_of, location_of, function_in};
 
+use crate::lines::{Lines, is_at};
 use crate::lookup::{self, filename, header_line, name};
 use crate::need::Need;
-use crate::recent::{Recent, is_at};
 use crate::sample::{Kind, StackSample};
 use crate::site::{Routine, Site};
 use crate::tables::place;
@@ -117,30 +117,28 @@ fn function_id(functions: &IndexSet<Routine>, routine: Routine) -> u64
     place(functions, &routine) as u64 + 1
 }
 
-// The same id, mostly without a look-up by hash.
-fn recent_id(locations: &IndexSet<Site>, recent: &mut Recent, site: Site) -> u64
+// The same id, without a look-up by hash where the site's line was met.
+fn met_id(locations: &IndexSet<Site>, lines: &Lines, site: Site) -> u64
     ensures { result ≡ numbers.location_id locations.now.keys site }
 {
-    let met = recent.place(site.routine);
+    let met = lines.place(site);
     if is_at(locations, met, site) {
         return met as u64 + 1;
     }
-    let found = place(locations, &site);
-    recent.meet(site.routine, found);
-    found as u64 + 1
+    location_id(locations, site)
 }
 
 fn location_ids(
     alloc: Global,
     locations: &IndexSet<Site>,
-    recent: &mut Recent,
+    lines: &Lines,
     stack: &[Site],
 ) -> Result<Words, Memory>
     ensures { IfOk result (λ ids. ids ≡ map (numbers.location_id locations.now.keys) stack.now) }
 {
     let mut ids = room(alloc, stack.len())?;
     for site in stack {
-        ids.push(recent_id(locations, recent, *site))?;
+        ids.push(met_id(locations, lines, *site))?;
     }
     Ok(ids)
 }
@@ -150,13 +148,13 @@ fn sample<'a>(
     parts: &'a Parts,
     strings: &IndexSet<Need<'a>>,
     locations: &IndexSet<Site>,
-    recent: &mut Recent,
+    lines: &Lines,
     sample: &StackSample,
 ) -> Result<Sample, Memory>
     ensures { IfOk result (λ message. message ≡ sample_of parts.now strings.now.keys locations.now.keys sample.now) }
 {
     Ok(Sample {
-        location_ids: location_ids(alloc, locations, recent, sample.stack.as_slice())?,
+        location_ids: location_ids(alloc, locations, lines, sample.stack.as_slice())?,
         values: Sequence::from_slice(alloc, sample.values.as_slice())?,
         labels: labels(alloc, strings, lookup::labels(parts, sample.set))?,
     })
@@ -167,14 +165,14 @@ pub(crate) fn samples<'a>(
     parts: &'a Parts,
     strings: &IndexSet<Need<'a>>,
     locations: &IndexSet<Site>,
+    lines: &Lines,
     samples: &[StackSample],
 ) -> Result<Samples, Memory>
     ensures { IfOk result (λ messages. messages ≡ map (sample_of parts.now strings.now.keys locations.now.keys) samples.now) }
 {
-    let mut recent = Recent::new(alloc, parts.functions.len())?;
     let mut messages = room(alloc, samples.len())?;
     for item in samples {
-        messages.push(sample(alloc, parts, strings, locations, &mut recent, item)?)?;
+        messages.push(sample(alloc, parts, strings, locations, lines, item)?)?;
     }
     Ok(messages)
 }

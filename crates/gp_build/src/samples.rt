@@ -1,19 +1,20 @@
 ghost use Rattle.std.specs.Prelude.{◌≡◌, ◌+◌, ◌<◌, ◌^◌, All, map, unwrap_or, OnOk, IfOk};
 ghost use Rattle.indexmap.specs.IndexMap.{get, insert_entry};
 ghost use Rattle.gp_build.specs.declared.samples.Group.{Group};
+ghost use Rattle.gp_build.specs.declared.spelled.Spelled.{Spelled as SpelledGroup};
 ghost use Rattle.gp_build.specs.Site.{site_of};
 ghost use Rattle.gp_build.specs.Shown.{shown_in, same_shown};
 ghost use Rattle.gp_build.specs.Samples.{group_of, groups_of, groups_in_order};
 ghost use Rattle.gp_build.specs.Profile.{sample_of_group, goroutine_samples};
 
-use crate::compare::compare;
 use crate::messages::{one, room};
 use crate::sample::StackSample;
 use crate::shown::Shown;
 use crate::site::{Site, Sites};
+use crate::spelled::{Spelled, compare, spell_all};
 use gp_isa::{Frame, Memory, Parts};
 use gp_stack::Record;
-use indexmap::IndexMap;
+use indexmap::{IndexMap, IndexSet};
 use std::alloc::Global;
 
 /// What is shown, and how many records show it.
@@ -42,7 +43,7 @@ fn counts<'a>(
 ) -> Result<IndexMap<Shown<'a>, u64>, Memory>
     ensures { IfOk result (λ counts. map group_of counts.entries ≡ groups_of (map (shown_in parts.now) records.now)) }
 {
-    let mut counts = IndexMap::new(alloc);
+    let mut counts = IndexMap::with_capacity(alloc, records.len())?;
     for record in records {
         count(&mut counts, Shown::new(parts, record))?;
     }
@@ -60,17 +61,20 @@ fn list<'a>(alloc: Global, counts: IndexMap<Shown<'a>, u64>) -> Result<Vec<Group
     Ok(samples)
 }
 
-// What records show, counted, in order.
+// What records show, counted, in order: each group with the numbers of its stack's blocks.
 fn groups<'a>(
     alloc: Global,
     parts: &'a Parts,
     records: &'a [Record],
-) -> Result<Vec<Group<'a>>, Memory>
-    ensures groups { IfOk result (λ all. all.items ≡ groups_in_order parts.now records.now) }
-    ensures small { IfOk result (λ all. All (λ (group : Group). group.count < 2 ^ 63) all.items) }
+) -> Result<Vec<Spelled<'a>>, Memory>
+    ensures groups { IfOk result (λ all. map (λ it. it.group) all.items ≡ groups_in_order parts.now records.now) }
+    ensures small { IfOk result (λ all. All (λ (it : SpelledGroup). it.group.count < 2 ^ 63) all.items) }
 {
-    let mut all = list(alloc, counts(alloc, parts, records)?)?;
-    all.sort_by(|a, b| compare(parts, a, b))?;
+    let counted = list(alloc, counts(alloc, parts, records)?)?;
+    let mut table = IndexSet::new(alloc);
+    let mut all = spell_all(alloc, &mut table, counted)?;
+    let blocks = table.as_slice();
+    all.sort_by(|a, b| compare(parts, blocks, a, b))?;
     Ok(all)
 }
 
@@ -95,13 +99,13 @@ fn sample(alloc: Global, group: &Group) -> Result<StackSample, Memory>
     })
 }
 
-fn samples_of(alloc: Global, all: &[Group]) -> Result<Vec<StackSample>, Memory>
-    requires { All (λ (group : Group). group.count < 2 ^ 63) all.now }
-    ensures { IfOk result (λ samples. samples.items ≡ map sample_of_group all.now) }
+fn samples_of(alloc: Global, all: &[Spelled]) -> Result<Vec<StackSample>, Memory>
+    requires { All (λ (it : SpelledGroup). it.group.count < 2 ^ 63) all.now }
+    ensures { IfOk result (λ samples. samples.items ≡ map (λ it. sample_of_group it.group) all.now) }
 {
     let mut samples = Vec::with_capacity(alloc, all.len())?;
-    for group in all {
-        samples.push(sample(alloc, group)?)?;
+    for it in all {
+        samples.push(sample(alloc, &it.group)?)?;
     }
     Ok(samples)
 }

@@ -2,6 +2,7 @@ ghost use Rattle.std.specs.Prelude.{◌≡◌, ◌++◌, fold};
 ghost use Rattle.std.specs.Hash as fed;
 ghost use Rattle.std.specs.Cmp.Lexicographic.{pointwise};
 ghost use Rattle.std.specs.Cmp.{partial_equiv_from_equiv};
+ghost use Rattle.gp_stack.specs.Word.{word_of};
 ghost use Rattle.gp_build.specs.Shown.{shown_in, same_frame, same_pair, same_shown};
 ghost use Rattle.gp_build.specs.laws.Alike.{frame_input, pair_input, shown_input, same_shown_equiv, shown_input-same};
 
@@ -78,13 +79,20 @@ fn are_same_pairs(a: &[Pair], b: &[Pair]) -> bool
     true
 }
 
-fn hash_frames<H: Hasher>(stack: &[Frame], state: &mut H)
+// A frame as one word, which is fed at once.
+fn word(frame: Frame) -> u64
+    ensures { result ≡ word_of frame }
+{
+    u64::from(frame.function) * 4_294_967_296 + u64::from(frame.line)
+}
+
+/// What is fed of a stack.
+pub(crate) fn hash_frames<H: Hasher>(stack: &[Frame], state: &mut H)
     ensures { state.new ≡ fold H.write state.old (fed.slice frame_input stack.now) }
 {
     stack.len().hash(state);
     for frame in stack {
-        frame.function.hash(state);
-        frame.line.hash(state);
+        word(*frame).hash(state);
     }
 }
 

@@ -8,9 +8,9 @@ ghost use Rattle.gp_build.specs.Numbers.{text, same_need, kind_needs, period_nee
 ghost use Rattle.gp_build.specs.Numbers.{string_table, location_table, function_table};
 ghost use Rattle.gp_build.specs.kept.Tables.{with_needs, HasNeeds, Enters};
 
+use crate::lines::{Lines, is_at};
 use crate::lookup::{filename, labels, name};
 use crate::need::Need;
-use crate::recent::{Recent, is_at};
 use crate::sample::{Header, Kind, StackSample};
 use crate::site::{Routine, Site};
 use gp_isa::{Memory, Pair, Parts};
@@ -79,7 +79,7 @@ fn first_strings<'a>(alloc: Global, header: &'a Header) -> Result<IndexSet<Need<
 // A site, and where it is new its function with its name and its file. Those of a site that was there are there too.
 fn need_site<'a>(
     all: &mut Tables<'a>,
-    recent: &mut Recent,
+    lines: &mut Lines,
     parts: &'a Parts,
     file: &'a str,
     site: Site,
@@ -87,11 +87,11 @@ fn need_site<'a>(
     requires { HasNeeds parts.now file.now all.old }
     ensures { OnOk result (Enters parts.now file.now (site_needs parts.now file.now site) (site ∷ []) all.old all.new) }
 {
-    if is_at(&all.locations, recent.place(site.routine), site) {
+    if is_at(&all.locations, lines.place(site), site) {
         return Ok(());
     }
     let (place, new) = enter(&mut all.locations, site)?;
-    recent.meet(site.routine, place);
+    lines.meet(site, place);
     if new {
         enter(&mut all.functions, site.routine)?;
         enter(&mut all.strings, Need::text(name(parts, site.routine)))?;
@@ -102,7 +102,7 @@ fn need_site<'a>(
 
 fn need_stack<'a>(
     all: &mut Tables<'a>,
-    recent: &mut Recent,
+    lines: &mut Lines,
     parts: &'a Parts,
     file: &'a str,
     stack: &[Site],
@@ -111,7 +111,7 @@ fn need_stack<'a>(
     ensures { OnOk result (Enters parts.now file.now (flat_map (site_needs parts.now file.now) stack.now) stack.now all.old all.new) }
 {
     for site in stack {
-        need_site(all, recent, parts, file, *site)?;
+        need_site(all, lines, parts, file, *site)?;
     }
     Ok(())
 }
@@ -129,7 +129,7 @@ fn need_labels<'a>(strings: &mut IndexSet<Need<'a>>, labels: &'a [Pair]) -> Resu
 
 fn need_sample<'a>(
     all: &mut Tables<'a>,
-    recent: &mut Recent,
+    lines: &mut Lines,
     parts: &'a Parts,
     file: &'a str,
     sample: &StackSample,
@@ -138,14 +138,14 @@ fn need_sample<'a>(
     ensures { let needs = sample_needs parts.now file.now sample.now in
         OnOk result (Enters parts.now file.now needs sample.now.stack all.old all.new) }
 {
-    need_stack(all, recent, parts, file, sample.stack.as_slice())?;
+    need_stack(all, lines, parts, file, sample.stack.as_slice())?;
     need_labels(&mut all.strings, labels(parts, sample.set))?;
     Ok(())
 }
 
 fn need_samples<'a>(
     all: &mut Tables<'a>,
-    recent: &mut Recent,
+    lines: &mut Lines,
     parts: &'a Parts,
     file: &'a str,
     samples: &[StackSample],
@@ -155,19 +155,20 @@ fn need_samples<'a>(
         OnOk result (Enters parts.now file.now needs (all_sites samples.now) all.old all.new) }
 {
     for sample in samples {
-        need_sample(all, recent, parts, file, sample)?;
+        need_sample(all, lines, parts, file, sample)?;
     }
     Ok(())
 }
 
 impl<'a> Tables<'a> {
-    /// The tables of samples.
+    /// The tables of samples, whose sites are met.
     pub(crate) fn new(
         alloc: Global,
         parts: &'a Parts,
         file: &'a str,
         header: &'a Header,
         samples: &[StackSample],
+        lines: &mut Lines,
     ) -> Result<Tables<'a>, Memory>
         ensures strings { IfOk result (λ all. all.strings.keys ≡ string_table parts.now file.now header.now samples.now) }
         ensures locations { IfOk result (λ all. all.locations.keys ≡ location_table samples.now) }
@@ -178,8 +179,7 @@ impl<'a> Tables<'a> {
             locations: IndexSet::new(alloc),
             functions: IndexSet::new(alloc),
         };
-        let mut recent = Recent::new(alloc, parts.functions.len())?;
-        need_samples(&mut all, &mut recent, parts, file, samples)?;
+        need_samples(&mut all, lines, parts, file, samples)?;
         Ok(all)
     }
 }

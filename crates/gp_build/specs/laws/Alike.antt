@@ -1,11 +1,12 @@
 -- The tests of equality are equivalences, and equal keys are hashed alike.
-use Rattle.std.specs.Prelude.{◌≡◌, ◌++◌, ℕ, true, List}
+use Rattle.std.specs.Prelude.{◌≡◌, ◌++◌, ◌==◌, ◌&&◌, ℕ, Bool, true, false, List}
 use Rattle.std.specs.Cmp.{IsEquivalence, and_equiv, on_equiv, nat_eq_equiv}
-use Rattle.std.specs.Cmp.Lexicographic.{bytes_decides, lists_equiv, nat_list_eq_equiv}
+use Rattle.std.specs.Cmp.Lexicographic.{bytes_decides, lists_equiv, nat_list_eq_equiv, pointwise}
 use Rattle.std.proofs.lemmas.Bool.Decides.{Decides-eqb}
 use Rattle.std.proofs.Common.{refl, sym, true≢false, ap}
 use Rattle.gp_isa.specs.declared.frame.Frame.{Frame}
 use Rattle.gp_isa.specs.declared.parts.Pair.{Pair}
+use Rattle.gp_stack.specs.Word.{word_of}
 use Rattle.gp_build.specs.declared.site.Routine.{Routine}
 use Rattle.gp_build.specs.declared.site.Routine.TheVariants.{Numbered, LostEvents}
 use Rattle.gp_build.specs.declared.site.Site.{Site}
@@ -25,7 +26,7 @@ abbrev pub site_input : Site → List (List ℕ)
 site_input site = routine_input site.routine ++ fed.u32 site.line
 
 abbrev pub frame_input : Frame → List (List ℕ)
-frame_input frame = fed.u32 frame.function ++ fed.u32 frame.line
+frame_input frame = fed.u64 (word_of frame)
 
 abbrev pub pair_input : Pair → List (List ℕ)
 pair_input pair = fed.str pair.key ++ fed.str pair.value
@@ -97,17 +98,32 @@ same_pair_equiv =
     (on_equiv (λ (pair : Pair). pair.key) nat_list_eq_equiv)
     (on_equiv (λ (pair : Pair). pair.value) nat_list_eq_equiv)
 
+pub same_frames_equiv : IsEquivalence (pointwise same_frame)
+same_frames_equiv = lists_equiv same_frame_equiv
+
 pub same_shown_equiv : IsEquivalence same_shown
 same_shown_equiv =
     and_equiv
-    (on_equiv (λ (shown : Shown). shown.stack) (lists_equiv same_frame_equiv))
+    (on_equiv (λ (shown : Shown). shown.stack) same_frames_equiv)
     (on_equiv (λ (shown : Shown). shown.labels) (lists_equiv same_pair_equiv))
 
+pub both_first : (a b : Bool) → (a && b) ≡ true → a ≡ true
+both_first true b h = refl
+both_first false b h = absurd (true≢false (sym h))
+
+pub both_second : (a b : Bool) → (a && b) ≡ true → b ≡ true
+both_second true b h = h
+both_second false b h = absurd (true≢false (sym h))
+
+-- frames that are the same are equal
+pub same_frame-is : (a b : Frame) → same_frame a b ≡ true → a ≡ b
+same_frame-is a b h =
+    let f : a.function ≡ b.function = (Decides-eqb a.function b.function).0 (both_first (a.function == b.function) (a.line == b.line) h) in
+    let l : a.line ≡ b.line = (Decides-eqb a.line b.line).0 (both_second (a.function == b.function) (a.line == b.line) h) in
+    λ i. record { function = f i; line = l i }
+
 frame_alike : Alike same_frame frame_input
-frame_alike =
-    and-Alike
-    (on_Alike (λ (frame : Frame). frame.function) (same_Alike fed.u32 Decides-eqb))
-    (on_Alike (λ (frame : Frame). frame.line) (same_Alike fed.u32 Decides-eqb))
+frame_alike = record { fed = λ a b h. ap frame_input (same_frame-is a b h) }
 
 pair_alike : Alike same_pair pair_input
 pair_alike =
@@ -115,10 +131,16 @@ pair_alike =
     (on_Alike (λ (pair : Pair). pair.key) (same_Alike fed.str bytes_decides))
     (on_Alike (λ (pair : Pair). pair.value) (same_Alike fed.str bytes_decides))
 
+frames_alike : Alike (pointwise same_frame) (fed.slice frame_input)
+frames_alike = items_Alike frame_alike
+
+pub frames_input-same : (a b : List Frame) → pointwise same_frame a b ≡ true → fed.slice frame_input a ≡ fed.slice frame_input b
+frames_input-same = frames_alike.fed
+
 shown_alike : Alike same_shown shown_input
 shown_alike =
     and-Alike
-    (on_Alike (λ (shown : Shown). shown.stack) (items_Alike frame_alike))
+    (on_Alike (λ (shown : Shown). shown.stack) frames_alike)
     (on_Alike (λ (shown : Shown). shown.labels) (items_Alike pair_alike))
 
 pub shown_input-same : (a b : Shown) → same_shown a b ≡ true → shown_input a ≡ shown_input b

@@ -10,7 +10,7 @@ use Rattle.gp_build.proofs.Steps.{map_more}
 use Rattle.gp_build.proofs.samples.counts.Goals as goal
 
 pub loop-record-init : goal.loop-record-init
-loop-record-init c = c.new-counts.ensures.empty ∙ sym (tally-nil same_shown_equiv)
+loop-record-init c = c.in_ok-counts.ensures.empty ∙ sym (tally-nil same_shown_equiv)
 
 pub count-requires : goal.count-requires
 count-requires c =

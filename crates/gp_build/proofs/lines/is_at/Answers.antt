@@ -2,7 +2,7 @@ use Rattle.std.proofs.Common.{◌≡◌, ◌<◌, true, length, get_or, rules}
 use Rattle.gp_build.specs.Site.{same_site}
 use Rattle.gp_build.specs.laws.Alike.{same_site_equiv}
 use Rattle.gp_build.proofs.Places.{place-at}
-use Rattle.gp_build.proofs.recent.is_at.Goals as goal
+use Rattle.gp_build.proofs.lines.is_at.Goals as goal
 
 pub returns-in-Some-clause-place : goal.returns-in-Some-clause-place
 returns-in-Some-clause-place c same =

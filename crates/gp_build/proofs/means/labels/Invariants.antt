@@ -1,0 +1,6 @@
+use Rattle.std.proofs.Common.{◌≡◌, take, map}
+use Rattle.gp_build.specs.Meant.{label_meant}
+use Rattle.gp_build.proofs.means.labels.Given as goal
+
+abbrev pub invariant-loop-item : goal.invariant-loop-item
+invariant-loop-item l = l.meant ≡ map (label_meant l.strings) (take l.item-index l.labels)
