@@ -1,14 +1,19 @@
--- The headline of a run from its parts.
-use Rattle.std.proofs.Common.{◌≡◌, ℕ, List, Option}
+-- The headline of a run from its parts, and the status that its words and its file come to.
+use Rattle.std.proofs.Common.{◌≡◌, ◌≢◌, ◌⊎◌, ℕ, List, Option, None, Some, inl, inr, sym, ap, ◌∙◌}
+use Rattle.std.proofs.lemmas.Bool.Decides.{eqb_tells}
 use Rattle.gp_isa.specs.declared.parts.Parts.{Parts}
+use Rattle.gp_journal.specs.Due as machine
+use Rattle.gp_journal.specs.Run.{state_of}
 use Rattle.gp_journal.specs.declared.settings.Settings.{Settings}
+use Rattle.gp_text.specs.Reading.{program_of, Reading, Gives}
+use Rattle.gp_words.specs.declared.jobs.Job.{Job}
 use Rattle.gp_words.specs.declared.jobs.Job.TheVariants.{Sim}
 use Rattle.gp_words.specs.Job.{job_of}
-use Rattle.gp_words.specs.Read.{Names}
-use Rattle.gp_top.specs.declared.report.Report.{Report}
+use Rattle.gp_words.specs.Read.{Read, Names}
+use Rattle.gp_report.specs.declared.report.Report.{Report}
 use Rattle.gp_top.specs.Files.{files_of, Told}
-use Rattle.gp_top.specs.Report.{IsReport}
-use Rattle.gp_top.specs.Status.{status_of}
+use Rattle.gp_top.specs.Report.{refusals, IsReport}
+use Rattle.gp_top.specs.Status.{status_of_end, status_of, status_of_run}
 use Rattle.gp_top.specs.Top.{IsAccepted, ArePut, IsRun}
 
 pub run_is : (words : List (List ℕ)) (held : Option (List ℕ)) (before after : Told) (status : ℕ) (report : Report) (program : Parts) (settings : Settings) (file : List ℕ)
@@ -16,3 +21,32 @@ pub run_is : (words : List (List ℕ)) (held : Option (List ℕ)) (before after 
     → job_of words ≡ Names (Sim file settings) → IsRun words held before after status report
 run_is words held before after status report program settings file accepted reported put job =
     record { file = file; settings = settings; job = job; program = program; accepted = accepted; reported = reported; put = put }
+
+-- the status of a report is that of its run
+status_is : (program : Parts) (settings : Settings) (report : Report) → IsReport program settings report → status_of report ≡ status_of_run program settings
+status_is program settings report is =
+    ap (λ refused. status_of_end refused report.ended) is.refused_are
+    ∙ (ap (status_of_end (refusals report.journal)) is.ended_is ∙ ap (λ journal. status_of_end (refusals journal) (machine.ended (state_of program settings journal))) is.chosen)
+
+-- bytes give one program
+program_same : (held : Option (List ℕ)) (bytes : List ℕ) (made program : Parts) → IsAccepted held made → held ≡ Some bytes → program_of bytes ≡ Gives program → made ≡ program
+program_same None bytes made program accepted is gives = absurd cc
+program_same (Some all) bytes made program accepted is gives =
+    let same : all ≡ bytes = cc in
+    let e : Gives made ≡ Gives program = sym accepted.gives ∙ (ap program_of (accepted.all ∙ same) ∙ gives) in cc
+
+-- so the words and the file tell the status
+pub status_told : (words : List (List ℕ)) (held : Option (List ℕ)) (report : Report) (made program : Parts) (taken settings : Settings) (name file bytes : List ℕ)
+    → IsAccepted held made → IsReport made taken report → job_of words ≡ Names (Sim name taken) → job_of words ≡ Names (Sim file settings) → held ≡ Some bytes
+    → program_of bytes ≡ Gives program → status_of report ≡ status_of_run program settings
+status_told words held report made program taken settings name file bytes accepted is named job same gives =
+    let jobs : Names (Sim name taken) ≡ Names (Sim file settings) = sym named ∙ job in
+    let settings_are : taken ≡ settings = cc in
+    status_is made taken report is ∙ (ap (λ p. status_of_run p taken) (program_same held bytes made program accepted same gives) ∙ ap (status_of_run program) settings_are)
+
+-- unless a put failed or memory ran out
+pub ends : (status told : ℕ) (rose : Type 0) → (status ≡ 4 → rose) → (status ≢ 4 → status ≢ 9 → status ≡ told) → (rose → ⊥) → (status ≡ told) ⊎ (status ≡ 9)
+ends status told rose fault tells none = elim (eqb_tells status 9) [
+  | inl nine ↦ inr nine.1
+  | inr other ↦ inl (tells (λ four. none (fault four)) other.1)
+]

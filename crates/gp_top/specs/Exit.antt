@@ -1,5 +1,7 @@
 -- The exit statuses, by number.
 use Rattle.std.specs.Prelude.{ℕ}
+use Rattle.gp_report.specs.declared.refusal.Fault.{Fault}
+use Rattle.gp_report.specs.declared.refusal.Fault.TheVariants.{Usage, Line, At, Long, Read}
 
 -- The run ended by `main`, no profile was refused, and all files were put.
 abbrev pub exit_done : ℕ
@@ -40,3 +42,11 @@ exit_full = 8
 -- Want of memory.
 abbrev pub exit_memory : ℕ
 exit_memory = 9
+
+-- The status of words, bytes and sources that are at fault.
+abbrev pub exit_of : Fault → ℕ
+exit_of (Usage place cause) = exit_usage
+exit_of (Line line cause) = exit_refused
+exit_of (At at cause) = exit_refused
+exit_of Long = exit_refused
+exit_of Read = exit_read_fault

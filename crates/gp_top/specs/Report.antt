@@ -12,7 +12,7 @@ use Rattle.gp_journal.specs.Actors.{made_by}
 use Rattle.gp_journal.specs.Run.{state_of, IsFinished}
 use Rattle.gp_sim.specs.Choice.{sim_journal}
 use Rattle.gp_journal.specs.Profiles.{AreFrozen}
-use Rattle.gp_top.specs.declared.report.Report.{Report}
+use Rattle.gp_report.specs.declared.report.Report.{Report}
 
 -- the goroutines that the Record entries up to the first Close name, in their order
 abbrev pub ids_taken : List Entry → List ℕ

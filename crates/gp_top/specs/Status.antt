@@ -8,7 +8,7 @@ use Rattle.gp_journal.specs.State.{code_of}
 use Rattle.gp_journal.specs.Due as machine
 use Rattle.gp_journal.specs.Run.{state_of}
 use Rattle.gp_sim.specs.Choice.{sim_journal}
-use Rattle.gp_top.specs.declared.report.Report.{Report}
+use Rattle.gp_report.specs.declared.report.Report.{Report}
 use Rattle.gp_top.specs.Report.{refusals}
 use Rattle.gp_top.specs.Exit.{exit_done, exit_fault, exit_deadlock, exit_profile_refused, exit_full}
 

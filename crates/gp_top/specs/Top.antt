@@ -1,25 +1,41 @@
 -- What the top call promises, in the words of its clauses.
-use Rattle.std.specs.Prelude.{◌≡◌, ◌<◌, ◌≤◌, ◌+◌, ◌⊎◌, ℕ, List, length, drop, Option, Some, IfSome}
-use Rattle.gp_io.specs.Outside.{File}
+use Rattle.std.specs.Prelude.{◌≡◌, ◌<◌, ◌≤◌, ◌+◌, ◌⊎◌, ℕ, Bool, false, List, [], ◌∷◌, codes, length, drop, Option, Some, IfSome}
+use Rattle.std.specs.Prelude.{if◌then◌else◌}
+use Rattle.std.specs.Str.{bytes_eq}
+use Rattle.gp_io.specs.Outside.{File, Appends, AppendsSome, Rose}
 use Rattle.gp_isa.specs.Limits.{file_bytes}
 use Rattle.gp_isa.specs.declared.parts.Parts.{Parts}
 use Rattle.gp_journal.specs.declared.settings.Settings.{Settings}
 use Rattle.gp_text.specs.declared.cause.Cause.{Cause}
+use Rattle.gp_text.specs.Number.{number_of}
 use Rattle.gp_text.specs.Reading.{program_of, Gives, Refuses}
+use Rattle.gp_words.specs.Causes.{bad_command}
+use Rattle.gp_words.specs.declared.jobs.Job.{Job}
 use Rattle.gp_words.specs.declared.jobs.Job.TheVariants.{Sim}
 use Rattle.gp_words.specs.Job.{job_of}
-use Rattle.gp_words.specs.Read.{Names, Faults}
-use Rattle.gp_top.specs.declared.report.Report.{Report}
+use Rattle.gp_words.specs.Read.{Read as Reading, Names, Faults}
+use Rattle.gp_report.specs.Fault.{fault_line}
+use Rattle.gp_report.specs.declared.refusal.Fault.TheVariants.{Usage, Line, Long}
+use Rattle.gp_report.specs.declared.report.Report.{Report}
 use Rattle.gp_top.specs.Exit.{exit_usage, exit_refused, exit_read_fault, exit_put_fault, exit_memory}
 use Rattle.gp_top.specs.Files.{files_of, Told, GainsFirst, FailsAtNext}
 use Rattle.gp_top.specs.Report.{IsReport}
 use Rattle.gp_top.specs.Status.{status_of}
 
+-- whether words are of a command that is done: so far `sim` alone
+abbrev pub is_built : List (List ℕ) → Bool
+is_built [] = false
+is_built (command ∷ words) = bytes_eq command (codes "sim")
+
+-- what words ask for: those of another command are at fault at that word, whatever follows
+unfoldable pub asked_of : List (List ℕ) → Reading Job
+asked_of words = if is_built words then job_of words else Faults 0 bad_command
+
 -- The words give no job.
 pub record GiveNoJob (words : List (List ℕ)) : Type 0 where
   pub place : ℕ
   pub cause : ℕ
-  pub faults : job_of words ≡ Faults place cause
+  pub faults : asked_of words ≡ Faults place cause
 
 -- They give one.
 pub record HaveJob (words : List (List ℕ)) : Type 0 where
@@ -36,6 +52,14 @@ pub record GiveNoProgram (bytes : List ℕ) : Type 0 where
 -- The bytes are all that the source held, where that is told.
 abbrev pub AreAll : Option (List ℕ) → List ℕ → Type 0
 AreAll held bytes = IfSome held (λ all. bytes ≡ all)
+
+-- The bytes that the source held are more than the limit.
+abbrev pub IsTooLong : Option (List ℕ) → Type 0
+IsTooLong held = IfSome held (λ all. file_bytes < length all)
+
+-- They are not, and have a first fault in a line, or as a whole.
+abbrev pub IsFaulty : Option (List ℕ) → ℕ → Cause → Type 0
+IsFaulty held line cause = IfSome held (λ all. (length all ≤ file_bytes) × (program_of all ≡ Refuses line cause))
 
 -- The bytes that the source held are no program, or more than the limit.
 abbrev pub IsRefused : Option (List ℕ) → Type 0
@@ -79,3 +103,25 @@ IsRefusal status = (status ≡ exit_usage) ⊎ ((status ≡ exit_refused) ⊎ (s
 -- the statuses without a report
 abbrev pub IsWithoutReport : ℕ → Type 0
 IsWithoutReport status = IsRefusal status ⊎ (status ≡ exit_memory)
+
+-- What a sink tells: the bytes that it took, where they are told, and its count of faults.
+abbrev pub Sunk : Type 0
+Sunk = Option (List ℕ) × ℕ
+
+-- The sink gained a line: whole, or a prefix of it where its count rose.
+abbrev pub IsWritten : List ℕ → Sunk → Sunk → Type 0
+IsWritten line before after =
+    (Appends before.0 line after.0 × (after.1 ≡ before.1)) ⊎ (AppendsSome before.0 line after.0 × Rose before.1 after.1)
+
+-- The line that the first fault in the words gives was written.
+pub record TellsUsage (words : List (List ℕ)) (before after : Sunk) : Type 0 where
+  pub place : ℕ
+  pub cause : ℕ
+  pub faults : asked_of words ≡ Faults place cause
+  pub written : IsWritten (fault_line (Usage place cause)) before after
+
+-- The line that tells why the bytes are refused was written: that they are too many, or the line and cause of their first fault.
+pub data TellsRefused (held : Option (List ℕ)) (before after : Sunk) : Type 0 where
+  TellsLong : IsTooLong held → IsWritten (fault_line Long) before after → TellsRefused held before after
+  TellsLine : (line : ℕ) (cause : Cause) → IsFaulty held line cause
+      → IsWritten (fault_line (Line line (number_of cause))) before after → TellsRefused held before after

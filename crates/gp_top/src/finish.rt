@@ -6,12 +6,12 @@ ghost use Rattle.gp_top.specs.Status as definition;
 ghost use Rattle.gp_top.specs.Top.{ArePut};
 ghost use Rattle.gp_top.specs.kept.Steps.{IsAfterRun};
 
-use crate::report::Report;
 use crate::save::{SaveError, put_profiles};
 use crate::status::{DEADLOCK, DONE, FAULT, FULL, MEMORY, PROFILE_REFUSED, PUT_FAULT};
 use gp_io::Store;
 use gp_isa::Program;
 use gp_machine::Ended;
+use gp_report::Report;
 use std::alloc::Global;
 
 // The status that tells how a run ended.

@@ -3,7 +3,16 @@
 //! [`plain_top`] goes one way. The words name a file and options (`gp_words`). The source is read to its end, and its
 //! bytes give a program (`gp_text`) or are refused (`load`). The program is run in the order that the options' numbers
 //! choose (`gp_sim`), and what the run tells is its report (`report`). Each goroutine profile that was opened (`gp_build`)
-//! becomes bytes (`gp_wire`) and is put into the store (`save`). How all that went is the exit status (`finish`).
+//! becomes bytes (`gp_wire`) and is put into the store (`save`). How all that went is the exit status (`finish`). What stops
+//! this before the run (`stop`) ends it, and where that isn't want of memory its line is written to the sink (`gp_report`):
+//!
+//! ```text
+//! words          sim a.gp --room 1 --room 1        sim a.gp                  sim b.gp
+//! source         (not read)                        "func main {\nwork 0\n}"  (a read fails)
+//! stop           Usage { place: 4, cause: 5 }      Line { line: 2, cause: 4 } Read
+//! sink gains     "usage 4 5\n"                     "refused line 2 cause 4\n" "read fault\n"
+//! status         1                                 2                         3
+//! ```
 //!
 //! What the call promises is in `specs/Top.antt`, to be read last: `Report` says what a report tells of its journal,
 //! `Status` which status a run comes to, and `Files` which files it puts.
@@ -14,7 +23,8 @@ mod load;
 mod report;
 mod save;
 pub mod status;
+mod stop;
 mod top;
 
-pub use report::Report;
+pub use gp_report::Report;
 pub use top::{Outcome, plain_top};

@@ -9,32 +9,11 @@ ghost use Rattle.gp_top.specs.Report as definition;
 ghost use Rattle.gp_top.specs.Report.{AreMade, IsReport};
 
 use gp_isa::{Memory, Program, Sequence};
-use gp_machine::{Counts, Ended, Entry, Journal, Machine, Refusals, Run, Settings};
+use gp_machine::{Counts, Entry, Machine, Refusals, Run, Settings};
+use gp_report::Report;
 use gp_sim::{Simulated, simulate};
-use gp_stack::Profiles;
 use std::alloc::Global;
 use std::marker::Brand;
-
-/// What a run tells that is complete.
-#[derive(Debug, Drop)]
-pub struct Report {
-    /// The entries, in their order.
-    pub journal: Journal,
-    /// The records of each goroutine profile that was opened, by epoch, in the order in which they were made.
-    pub goroutine_records: Profiles,
-    /// The room and the number of live goroutines of each profile that was refused.
-    pub refused: Refusals,
-    /// How many instructions each worker has run.
-    pub done: Counts,
-    /// How many entries each actor made: the workers, and the profiler last.
-    pub made: Counts,
-    /// How the run ended.
-    pub ended: Ended,
-    /// How many goroutines were born.
-    pub born: u32,
-    /// How many of them are live at the end.
-    pub live: u32,
-}
 
 // The room and the number of live goroutines of each Refuse entry.
 fn refusals(alloc: Global, journal: &[Entry]) -> Result<Refusals, Memory>

@@ -1,23 +1,34 @@
-ghost use Rattle.std.specs.Prelude.{◌≡◌, ◌≢◌, ◌≤◌, ◌⊎◌, List, ℕ, length, Some, IfSome, None};
+ghost use Rattle.std.specs.Prelude.{◌≡◌, ◌≢◌, ◌≤◌, ◌⊎◌, List, ℕ, length, Some, IfSome, None, IfOk, IfErr, OnOk, OnErr};
 ghost use Rattle.gp_io.specs.Outside.{Rose};
 ghost use Rattle.gp_isa.specs.Limits.{file_bytes};
 ghost use Rattle.gp_isa.specs.declared.parts.Parts.{Parts};
+ghost use Rattle.gp_journal.specs.Settings.{AreInRange};
 ghost use Rattle.gp_journal.specs.declared.settings.Settings.{Settings};
+ghost use Rattle.gp_report.specs.Fault.{fault_line};
+ghost use Rattle.gp_report.specs.declared.refusal.Fault.TheVariants.{Read};
 ghost use Rattle.gp_words.specs.Words.{texts};
 ghost use Rattle.gp_words.specs.declared.jobs.Job.TheVariants.{Sim};
 ghost use Rattle.gp_words.specs.Job.{job_of};
 ghost use Rattle.gp_words.specs.Read.{Names};
 ghost use Rattle.gp_text.specs.Reading.{program_of, Gives};
 ghost use Rattle.gp_top.specs.Exit.{exit_usage, exit_refused, exit_read_fault, exit_put_fault, exit_memory};
+ghost use Rattle.gp_top.specs.Exit as definition;
 ghost use Rattle.gp_top.specs.Status.{status_of_run};
-ghost use Rattle.gp_top.specs.Top.{GiveNoJob, HaveJob, IsAccepted, IsRefused, IsReadWhole, IsRun, IsRefusal, IsWithoutReport};
+ghost use Rattle.gp_top.specs.Top.{GiveNoJob, HaveJob, IsRefused, IsReadWhole, IsRun, IsRefusal, IsWithoutReport};
+ghost use Rattle.gp_top.specs.Top as promise;
+ghost use Rattle.gp_top.specs.Top.{IsWritten, TellsUsage, TellsRefused};
+ghost use Rattle.gp_top.specs.kept.Steps.{WordsStop, RunStops, IsAfterRun};
 
 use crate::finish::finish;
-use crate::load::{LoadError, load};
-use crate::report::{Report, run};
-use crate::status::{MEMORY, PUT_FAULT, READ_FAULT, REFUSED, USAGE};
-use gp_io::{Sink, Source, Store};
-use gp_words::{Job, WordError, job};
+use crate::load::load;
+use crate::report::run;
+use crate::status::MEMORY;
+use crate::stop::{Stop, exit_of};
+use gp_io::{Sink, Source, Store, write_all};
+use gp_isa::Text;
+use gp_machine::Settings;
+use gp_report::{Fault, Report, fault};
+use gp_words::{Job, cause, job};
 use std::alloc::Global;
 
 /// How a call ended.
@@ -40,9 +51,86 @@ fn without_report(status: u8) -> Outcome
     }
 }
 
+// Whether words are of a command that is done: so far `sim` alone.
+fn is_built(words: &[String]) -> bool
+    ensures { result ≡ promise.is_built (texts words.now) }
+{
+    match words.first() {
+        Some(command) => command.as_str() == "sim",
+        None => false,
+    }
+}
+
+// The file and the settings of the simulated run that the words ask for.
+fn asked(alloc: Global, words: &[String]) -> Result<(Text, Settings), Stop>
+    ensures ok { IfOk result (λ asked. job_of (texts words.now) ≡ Names (Sim asked.0 asked.1)) }
+    ensures range { IfOk result (λ asked. AreInRange asked.1) }
+    ensures stopped { IfErr result (WordsStop (texts words.now)) }
+{
+    let unknown = Stop::Fault(Fault::Usage {
+        place: 0,
+        cause: cause::BAD_COMMAND,
+    });
+    if !is_built(words) {
+        return Err(unknown);
+    }
+    let named = job(alloc, words)?;
+    // (words that begin with `sim` name no other job)
+    let Job::Sim { file, settings } = named else {
+        return Err(unknown);
+    };
+    Ok((file, settings))
+}
+
+// Makes the run that the words ask for, and puts its files. Answers the exit status and what the run tells.
+fn perform<S: Source, K: Store>(
+    alloc: Global,
+    words: &[String],
+    source: &mut S,
+    store: &mut K,
+) -> Result<(u8, Report), Stop>
+    ensures headline { IfOk result (λ done. IsRun (texts words.now) (S.left source.old)
+        (K.files store.old, K.asked store.old) (K.files store.new, K.asked store.new) done.0 done.1) }
+    ensures after_run { IfOk result (λ done. IsAfterRun done.0) }
+    ensures whole { OnOk result (IsReadWhole (S.left source.old) (S.left source.new)) }
+    ensures read_well { OnOk result (S.faults source.new ≡ S.faults source.old) }
+    ensures put_fault { IfOk result (λ done. done.0 ≡ exit_put_fault → Rose (K.faults store.old) (K.faults store.new)) }
+    ensures put_well { IfOk result (λ done. done.0 ≢ exit_put_fault → K.faults store.new ≡ K.faults store.old) }
+    ensures ended { IfOk result (λ done. (file bytes : List ℕ) (settings : Settings) (program : Parts)
+        → job_of (texts words.now) ≡ Names (Sim file settings)
+        → S.left source.old ≡ Some bytes → program_of bytes ≡ Gives program
+        → (Rose (K.faults store.old) (K.faults store.new) → ⊥)
+        → (done.0 ≡ status_of_run program settings) ⊎ (done.0 ≡ exit_memory)) }
+
+    ensures nothing_put { OnErr result (store.new ≡ store.old) }
+    ensures stopped { IfErr result (RunStops S.left S.faults (texts words.now) source.old source.new) }
+{
+    let (file, settings) = asked(alloc, words)?;
+    let program = load(alloc, source)?;
+    let report = run(alloc, &program, &settings)?;
+    let status = finish(alloc, &program, file.as_str(), &report, store);
+    Ok((status, report))
+}
+
+// The outcome of a fault, whose line is written first. Where the sink fails it has a prefix of the line, and the status stays.
+fn refuse<O: Sink>(alloc: Global, what: &Fault, out: &mut O) -> Outcome
+    ensures status { (result.status ≡ definition.exit_of what.now) ⊎ (result.status ≡ exit_memory) }
+    ensures report { result.report ≡ None }
+    ensures written { result.status ≢ exit_memory
+        → IsWritten (fault_line what.now) (O.written out.old, O.faults out.old) (O.written out.new, O.faults out.new) }
+    ensures memory { result.status ≡ exit_memory → out.new ≡ out.old }
+{
+    let Ok(line) = fault(alloc, what) else {
+        return without_report(MEMORY);
+    };
+    let _ = write_all(out, line.as_bytes());
+    without_report(exit_of(what))
+}
+
 /// Does the job that the words name, and always returns: it reads the program that the source holds, runs it in the order
 /// that the options' numbers choose, and puts each goroutine profile that was opened as `goroutine.K.pb`, K being its
-/// epoch. Nothing is written to `out` yet.
+/// epoch. Of the commands it does `sim` so far; the words of another one are at fault at the first. Where the words, the file or
+/// the source are at fault, it writes the line that tells why.
 pub fn plain_top<S: Source, K: Store, O: Sink>(
     alloc: Global,
     words: &[String],
@@ -71,16 +159,24 @@ pub fn plain_top<S: Source, K: Store, O: Sink>(
     ensures refused_whole { result.status ≡ exit_refused → IsReadWhole (S.left source.old) (S.left source.new) }
     ensures reported_whole { IfSome result.report (λ _. IsReadWhole (S.left source.old) (S.left source.new)) }
 
-    // Status 3: only where the source's count rose. On every other status it didn't.
+    // Status 3: only where the source's count rose. On every other status but 9 it didn't.
     ensures read_fault { result.status ≡ exit_read_fault → Rose (S.faults source.old) (S.faults source.new) }
-    ensures read_well { result.status ≢ exit_read_fault → S.faults source.new ≡ S.faults source.old }
+    ensures read_well { result.status ≢ exit_read_fault → result.status ≢ exit_memory
+        → S.faults source.new ≡ S.faults source.old }
 
     // Status 4: only where the store's count rose. On every other status it didn't.
     ensures put_fault { result.status ≡ exit_put_fault → Rose (K.faults store.old) (K.faults store.new) }
     ensures put_well { result.status ≢ exit_put_fault → K.faults store.new ≡ K.faults store.old }
 
-    // The sink is as before on every status.
-    ensures nothing_written { out.new ≡ out.old }
+    // What is written: on status 1, 2 and 3 the line of that refusal, whole, or a prefix of it where the sink's count rose. On
+    // every other status the sink is as before.
+    ensures usage_line { result.status ≡ exit_usage
+        → TellsUsage (texts words.now) (O.written out.old, O.faults out.old) (O.written out.new, O.faults out.new) }
+    ensures refused_line { result.status ≡ exit_refused
+        → TellsRefused (S.left source.old) (O.written out.old, O.faults out.old) (O.written out.new, O.faults out.new) }
+    ensures read_line { result.status ≡ exit_read_fault
+        → IsWritten (fault_line Read) (O.written out.old, O.faults out.old) (O.written out.new, O.faults out.new) }
+    ensures nothing_written { (IsRefusal result.status → ⊥) → out.new ≡ out.old }
 
     // With right words, a right file and no fault the status tells how the run ended, unless memory runs out. How it ends
     // is told by the program and the options.
@@ -91,25 +187,12 @@ pub fn plain_top<S: Source, K: Store, O: Sink>(
         → (Rose (K.faults store.old) (K.faults store.new) → ⊥)
         → (result.status ≡ status_of_run program settings) ⊎ (result.status ≡ exit_memory) }
 {
-    // (it has no effect: a `&mut` that is never used has no value in the clauses)
-    let _ = &*out;
-    let (file, settings) = match job(alloc, words) {
-        Ok(Job::Sim { file, settings }) => (file, settings),
-        Err(WordError::Usage { .. }) => return without_report(USAGE),
-        Err(WordError::Memory) => return without_report(MEMORY),
-    };
-    let program = match load(alloc, source) {
-        Ok(program) => program,
-        Err(LoadError::Refused) => return without_report(REFUSED),
-        Err(LoadError::ReadFault) => return without_report(READ_FAULT),
-        Err(LoadError::Memory) => return without_report(MEMORY),
-    };
-    let Ok(report) = run(alloc, &program, &settings) else {
-        return without_report(MEMORY);
-    };
-    let status = finish(alloc, &program, file.as_str(), &report, store);
-    Outcome {
-        status,
-        report: Some(report),
+    match perform(alloc, words, source, store) {
+        Ok((status, report)) => Outcome {
+            status,
+            report: Some(report),
+        },
+        Err(Stop::Fault(what)) => refuse(alloc, &what, out),
+        Err(Stop::Memory) => without_report(MEMORY),
     }
 }

@@ -1,22 +1,27 @@
 use Rattle.std.proofs.Common.{ap, sym, Err}
-use Rattle.std.proofs.lemmas.Result.{err_from_is_err_and}
-use Rattle.gp_top.proofs.Loading.{refused_read, refused_text, same_err, whole_read}
+use Rattle.gp_top.specs.kept.Steps.{stop_of_read, stop_of_text, LoadStops}
+use Rattle.gp_top.proofs.Loading.{whole_read, carried, stopped_read, stopped_text}
 use Rattle.gp_top.proofs.load.load.Goals as goal
 
-pub returns-in_err-bytes-clause-refused : goal.returns-in_err-bytes-clause-refused
-returns-in_err-bytes-clause-refused g c =
-    let p = err_from_is_err_and c.from_residual.result c.from_residual.ensures.1 in
-    λ is. refused_read (g.S.Source.left c.args.source.now) c.in_err-bytes.field-0.0 p.0 p.2 (λ q. c.in_err-bytes.ensures.too_long (ap Err q)) (same_err c.from_residual.result p.0 _ p.1 is)
+pub returns-in_err-bytes-clause-stopped : goal.returns-in_err-bytes-clause-stopped
+returns-in_err-bytes-clause-stopped g c =
+    let left = g.S.Source.left in
+    let faults = g.S.Source.faults in
+    let e = c.in_err-bytes.field-0.0 in
+    let said = c.in_err-bytes.ensures in
+    carried c.from_residual.result (stop_of_read e) (LoadStops left faults c.args.source.now c.read_all.new.source) c.from_residual.ensures.1
+    (stopped_read left faults c.args.source.now c.read_all.new.source e (λ q. said.too_long (ap Err q)) (λ q. said.one_more_taken (ap Err q)) (λ q. said.too_long_without_fault (ap Err q)) (λ q. said.fault (ap Err q)))
 
-pub returns-in_err-read-clause-refused : goal.returns-in_err-read-clause-refused
-returns-in_err-read-clause-refused g c =
-    let p = err_from_is_err_and c.from_residual-in_err-read.result c.from_residual-in_err-read.ensures.1 in
-    λ is. refused_text (g.S.Source.left c.args.source.now) c.in_ok-bytes.bytes c.in_err-read.field-0.0 p.0 c.in_ok-bytes.ensures.all p.2
-    (rw (sym c.as_slice.ensures) c.in_err-read.ensures.refused) (same_err c.from_residual-in_err-read.result p.0 _ p.1 is)
-
-pub returns-in_err-read-clause-refused_whole : goal.returns-in_err-read-clause-refused_whole
-returns-in_err-read-clause-refused_whole g c = λ _.
-    whole_read (g.S.Source.left c.args.source.now) (g.S.Source.left c.read_all.new.source) c.in_ok-bytes.bytes c.in_ok-bytes.ensures.all c.in_ok-bytes.ensures.within c.in_ok-bytes.ensures.nothing_left
+pub returns-in_err-read-clause-stopped : goal.returns-in_err-read-clause-stopped
+returns-in_err-read-clause-stopped g c =
+    let left = g.S.Source.left in
+    let faults = g.S.Source.faults in
+    let e = c.in_err-read.field-0.0 in
+    let bytes = c.in_ok-bytes.bytes in
+    let said = c.in_ok-bytes.ensures in
+    carried c.from_residual-in_err-read.result (stop_of_text e) (LoadStops left faults c.args.source.now c.read_all.new.source) c.from_residual-in_err-read.ensures.1
+    (stopped_text left faults c.args.source.now c.read_all.new.source e bytes said.all said.within (whole_read _ _ bytes said.all said.within said.nothing_left) said.ok_without_fault
+    (rw (sym c.as_slice.ensures) c.in_err-read.ensures.refused))
 
 pub returns-clause-whole : goal.returns-clause-whole
 returns-clause-whole g c =
