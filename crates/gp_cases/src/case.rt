@@ -10,11 +10,6 @@ pub(crate) struct Case<'a> {
     pub(crate) expected: String,
 }
 
-/// The first word of a row, and what stands behind the blank after it.
-pub fn word(row: &str) -> (&str, &str) {
-    row.split_once(' ').unwrap_or((row, ""))
-}
-
 impl<'a> Case<'a> {
     /// The case of a block of lines. It has no row where there is none.
     pub(crate) fn read(alloc: Global, block: &'a str) -> Result<Case<'a>, Unanswered> {

@@ -22,8 +22,9 @@ mod cases;
 mod copies;
 mod error;
 mod page;
+mod reading;
 
-pub use case::word;
 pub use cases::{Teller, walk};
 pub use error::Unanswered;
 pub use page::Page;
+pub use reading::{bytes, halves, integer, lines, number_8, number_32, number_64, word, words};

@@ -1,3 +1,4 @@
+use crate::error::Unanswered;
 use std::alloc::{AllocError, Global};
 use std::fmt::{Debug, Write};
 
@@ -41,5 +42,12 @@ impl Page {
     pub fn debug<T: Debug>(&mut self, before: &str, value: &T) -> Result<(), AllocError> {
         self.text.push_str(before)?;
         write!(self.text, "{value:?}")
+    }
+
+    /// Begins a line with bytes in hexadecimal digits.
+    pub fn bytes(&mut self, alloc: Global, bytes: &[u8]) -> Result<(), Unanswered> {
+        let digits = hex::encode(alloc, bytes)?;
+        self.line(digits.as_str())?;
+        Ok(())
     }
 }
