@@ -5,7 +5,7 @@ ghost use Rattle.gp_stack.specs.Body.{StandsIn};
 use crate::files::file_program;
 use crate::graphs::chain;
 use crate::parts::program_of;
-use gp_cases::{Page, Unanswered, word};
+use gp_cases::{Page, Unanswered, number_8, number_32, number_64, word};
 use gp_isa::{Frame, Program};
 use gp_stack::{Body, Then};
 use std::alloc::{AllocError, Global};
@@ -95,8 +95,8 @@ fn walk_rows(
     let mut stretches = Page::new(alloc);
     for row in rows {
         let (n, limit) = word(row);
-        let n = n.parse()?;
-        let limit = limit.parse()?;
+        let n = number_64(n)?;
+        let limit = number_64(limit)?;
         look(alloc, page, &mut walker, program, n, limit)?;
         let mut body = born(alloc, program, start, set)?;
         look(alloc, &mut stretches, &mut body, program, n, limit)?;
@@ -116,11 +116,11 @@ pub fn walks(alloc: Global, page: &mut Page, head: &str, rows: &[&str]) -> Resul
     let (start, head) = word(head);
     let (set, text) = word(head);
     let program = program_of(alloc, text)?;
-    let start: u32 = start.parse()?;
+    let start = number_32(start)?;
     if start as usize >= program.parts().functions.len() {
         return Err(Unanswered::Form);
     }
-    walk_rows(alloc, page, &program, start, set.parse()?, rows)
+    walk_rows(alloc, page, &program, start, number_8(set)?, rows)
 }
 
 // A word is told as its upper and its lower half.
@@ -166,14 +166,14 @@ fn cut_rows(
     }
     let body = born(alloc, program, 0, 0)?;
     for max in rows {
-        cut(alloc, page, &body, program, max.parse()?)?;
+        cut(alloc, page, &body, program, number_32(max)?)?;
     }
     Ok(())
 }
 
 /// The stack of a chain's first point, cut behind as many frames as each row says.
 pub fn cuts(alloc: Global, page: &mut Page, count: &str, rows: &[&str]) -> Result<(), Unanswered> {
-    let file = chain(alloc, count.parse()?)?;
+    let file = chain(alloc, number_32(count)?)?;
     let program = file_program(alloc, file.as_str().as_bytes())?;
     cut_rows(alloc, page, &program, rows)
 }

@@ -1,8 +1,8 @@
 //! What comes of program files.
 use crate::graphs::graph;
 use crate::programs::numbers;
-use gp_cases::{Page, Unanswered, word};
-use gp_isa::{Function, Parts, Program, What};
+use gp_cases::{Page, Unanswered, bytes, lines, word};
+use gp_isa::{Function, LabelSet, Parts, Program, Stmt, What, limits};
 use gp_text::{TextError, read};
 use std::alloc::{AllocError, Global};
 
@@ -24,18 +24,51 @@ fn doing(what: &What) -> (&str, u32) {
     }
 }
 
+// Statements, each with its line; those of a loop in braces, with the line of the second one.
+#[cycle(list)]
+fn list_body(page: &mut Page, body: &[Stmt], deep: u8) -> Result<(), AllocError> {
+    for statement in body {
+        let (verb, number) = doing(&statement.what);
+        page.number(" ", u64::from(statement.line))?;
+        page.text(" ")?;
+        page.text(verb)?;
+        page.number(" ", u64::from(number))?;
+        if deep > 0 {
+            list_inside(page, &statement.what, deep - 1)?;
+        }
+    }
+    Ok(())
+}
+
+// What stands in a statement, if it is a loop.
+#[cycle(list)]
+fn list_inside(page: &mut Page, what: &What, deep: u8) -> Result<(), AllocError> {
+    if let What::Loop { body, end, .. } = what {
+        page.text(" {")?;
+        list_body(page, body.get().as_slice(), deep)?;
+        page.number(" } ", u64::from(*end))?;
+    }
+    Ok(())
+}
+
 fn list_function(page: &mut Page, function: &Function) -> Result<(), AllocError> {
     page.line("func ")?;
     page.text(function.name.as_str())?;
     page.number(" ", u64::from(function.line))?;
     page.number("-", u64::from(function.end))?;
     page.text(":")?;
-    for statement in function.body.as_slice() {
-        let (verb, number) = doing(&statement.what);
-        page.number(" ", u64::from(statement.line))?;
+    list_body(page, function.body.as_slice(), limits::LOOPS)
+}
+
+fn list_set(page: &mut Page, set: &LabelSet) -> Result<(), AllocError> {
+    page.line("labels ")?;
+    page.text(set.name.as_str())?;
+    page.number(" ", u64::from(set.line))?;
+    for pair in set.pairs.as_slice() {
         page.text(" ")?;
-        page.text(verb)?;
-        page.number(" ", u64::from(number))?;
+        page.text(pair.key.as_str())?;
+        page.text("=")?;
+        page.text(pair.value.as_str())?;
     }
     Ok(())
 }
@@ -52,6 +85,9 @@ fn list(page: &mut Page, parts: &Parts) -> Result<(), AllocError> {
         page.line("mutex ")?;
         page.text(mutex.name.as_str())?;
         page.number(" ", u64::from(mutex.line))?;
+    }
+    for set in parts.labels.as_slice() {
+        list_set(page, set)?;
     }
     for function in parts.functions.as_slice() {
         list_function(page, function)?;
@@ -79,12 +115,13 @@ pub fn file_program(alloc: Global, file: &[u8]) -> Result<Program, Unanswered> {
     read(alloc, file).ok().ok_or(Unanswered::Form)
 }
 
-fn tell(page: &mut Page, kind: &str, program: &Program) -> Result<(), AllocError> {
+fn tell(page: &mut Page, kind: &str, program: &Program) -> Result<(), Unanswered> {
     match kind {
-        "read" => numbers(page, program),
-        "list" => list(page, program.parts()),
-        _ => sizes(page, program.parts()),
+        "read" => numbers(page, program)?,
+        "list" => list(page, program.parts())?,
+        _ => sizes(page, program.parts())?,
     }
+    Ok(())
 }
 
 // What comes of a file: the line and the number of the cause of a refusal, or what is asked for of the program.
@@ -107,11 +144,18 @@ fn tell_row(alloc: Global, page: &mut Page, kind: &str, row: &str) -> Result<(),
     let (form, rest) = word(row);
     match form {
         "text" => {
+            let text = lines(alloc, rest)?;
+            tell_file(alloc, page, kind, text.as_bytes())
+        }
+        "marks" => {
             let text = rest.replace(alloc, ';', "\n")?;
+            let text = text.replace(alloc, '%', "#")?;
+            let text = text.replace(alloc, '|', "\t")?;
+            let text = text.replace(alloc, '$', "\r")?;
             tell_file(alloc, page, kind, text.as_bytes())
         }
         "hex" => {
-            let bytes = hex::decode(alloc, rest).ok().ok_or(Unanswered::Form)?;
+            let bytes = bytes(alloc, rest)?;
             tell_file(alloc, page, kind, bytes.as_slice())
         }
         _ => {

@@ -1,5 +1,5 @@
 //! Files of functions that call one another, of which the first is `main`. One that calls nobody does `work 1`.
-use gp_cases::{Page, Unanswered, word};
+use gp_cases::{Page, Unanswered, number_32, word};
 use std::alloc::{AllocError, Global};
 
 fn write_name(page: &mut Page, f: u32) -> Result<(), AllocError> {
@@ -60,6 +60,6 @@ pub fn graph(alloc: Global, words: &str) -> Result<Page, Unanswered> {
     let (shape, numbers) = word(words);
     let (count, doubled) = word(numbers);
     let mut page = Page::new(alloc);
-    write_graph(&mut page, shape, count.parse()?, doubled.parse()?)?;
+    write_graph(&mut page, shape, number_32(count)?, number_32(doubled)?)?;
     Ok(page)
 }

@@ -12,6 +12,7 @@ mod messages;
 mod parts;
 mod profiles;
 mod programs;
+mod readings;
 mod samples;
 mod sequences;
 mod waits;
@@ -49,6 +50,8 @@ impl Teller for OfProfiles {
             "goroutines" => profiles::goroutines(alloc, page, rest, rows),
             "large" => profiles::large(alloc, page, rest),
             "samples" => samples::samples(alloc, page, rest, rows),
+            "decode" => readings::readings(alloc, page, rows),
+            "prefixes" => readings::prefixes(alloc, page, rest),
             _ => messages::message(alloc, page, rows),
         }
     }
@@ -57,6 +60,8 @@ impl Teller for OfProfiles {
 fn main(rt: HostRuntime) -> Result<(), Unanswered> {
     walk::<OfPrograms>(&rt, "programs.txt")?;
     walk::<OfPrograms>(&rt, "files.txt")?;
+    walk::<OfPrograms>(&rt, "grammar.txt")?;
     walk::<OfPrograms>(&rt, "bodies.txt")?;
-    walk::<OfProfiles>(&rt, "profiles.txt")
+    walk::<OfProfiles>(&rt, "profiles.txt")?;
+    walk::<OfProfiles>(&rt, "bytes.txt")
 }

@@ -1,31 +1,31 @@
 //! Messages that no builder makes, as bytes in hexadecimal text.
 use crate::profiles::tell_bytes;
 use crate::samples::numbers;
-use gp_cases::{Page, Unanswered, word};
+use gp_cases::{Page, Unanswered, halves, integer, number_64, word, words};
 use gp_isa::{Sequence, Text};
 use gp_wire::{Function, Label, Labels, Line, Location, Profile, Sample, ValueType};
 use std::alloc::Global;
 
 // A kind, as two places in the string table.
-fn kind(words: &str) -> Result<ValueType, Unanswered> {
-    let (kind, unit) = word(words);
+fn kind(row: &str) -> Result<ValueType, Unanswered> {
+    let (kind, unit) = word(row);
     Ok(ValueType {
-        kind: kind.parse()?,
-        unit: unit.parse()?,
+        kind: integer(kind)?,
+        unit: integer(unit)?,
     })
 }
 
-fn ids(alloc: Global, words: &str) -> Result<Sequence<u64>, Unanswered> {
+fn ids(alloc: Global, row: &str) -> Result<Sequence<u64>, Unanswered> {
     let mut ids = Sequence::new(alloc);
-    for word in words.split_whitespace() {
-        ids.push(word.parse()?)?;
+    for word in words(alloc, row)? {
+        ids.push(number_64(word)?)?;
     }
     Ok(ids)
 }
 
 // Labels, four numbers each: key, text, number and unit.
-fn labels(alloc: Global, words: &str) -> Result<Labels, Unanswered> {
-    let fields = numbers(alloc, words)?;
+fn labels(alloc: Global, row: &str) -> Result<Labels, Unanswered> {
+    let fields = numbers(alloc, row)?;
     let mut labels = Sequence::new(alloc);
     for label in fields.as_slice().chunks(4) {
         let [key, text, num, num_unit] = label else {
@@ -42,9 +42,9 @@ fn labels(alloc: Global, words: &str) -> Result<Labels, Unanswered> {
 }
 
 // A sample: its location ids, its values and its labels.
-fn sample(alloc: Global, words: &str) -> Result<Sample, Unanswered> {
-    let (location_ids, rest) = words.split_once('/').ok_or(Unanswered::Form)?;
-    let (values, all_labels) = rest.split_once('/').ok_or(Unanswered::Form)?;
+fn sample(alloc: Global, row: &str) -> Result<Sample, Unanswered> {
+    let (location_ids, rest) = halves(row, '/')?;
+    let (values, all_labels) = halves(rest, '/')?;
     Ok(Sample {
         location_ids: ids(alloc, location_ids)?,
         values: numbers(alloc, values)?,
@@ -53,31 +53,31 @@ fn sample(alloc: Global, words: &str) -> Result<Sample, Unanswered> {
 }
 
 // A location: its id, and its lines as function and line.
-fn location(alloc: Global, words: &str) -> Result<Location, Unanswered> {
-    let (id, rest) = word(words);
+fn location(alloc: Global, row: &str) -> Result<Location, Unanswered> {
+    let (id, rest) = word(row);
     let mut lines = Sequence::new(alloc);
-    for line in rest.split_whitespace() {
-        let (function_id, line) = line.split_once(':').ok_or(Unanswered::Form)?;
+    for line in words(alloc, rest)? {
+        let (function_id, line) = halves(line, ':')?;
         lines.push(Line {
-            function_id: function_id.parse()?,
-            line: line.parse()?,
+            function_id: number_64(function_id)?,
+            line: integer(line)?,
         })?;
     }
     Ok(Location {
-        id: id.parse()?,
+        id: number_64(id)?,
         lines,
     })
 }
 
 // A function: its id, and then name, system name, filename and start line.
-fn function(alloc: Global, words: &str) -> Result<Function, Unanswered> {
-    let (id, rest) = word(words);
+fn function(alloc: Global, row: &str) -> Result<Function, Unanswered> {
+    let (id, rest) = word(row);
     let fields = numbers(alloc, rest)?;
     let [name, system_name, filename, start_line] = fields.as_slice() else {
         return Err(Unanswered::Form);
     };
     Ok(Function {
-        id: id.parse()?,
+        id: number_64(id)?,
         name: *name,
         system_name: *system_name,
         filename: *filename,
@@ -94,8 +94,8 @@ fn add(alloc: Global, profile: &mut Profile, row: &str) -> Result<(), Unanswered
         "function" => profile.functions.push(function(alloc, rest)?)?,
         "string" => profile.strings.push(Text::from_str(alloc, rest)?)?,
         "period-type" => profile.period_type = Some(kind(rest)?),
-        "period" => profile.period = rest.parse()?,
-        _ => profile.duration = rest.parse()?,
+        "period" => profile.period = integer(rest)?,
+        _ => profile.duration = integer(rest)?,
     }
     Ok(())
 }

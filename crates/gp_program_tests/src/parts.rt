@@ -2,11 +2,12 @@
 //!
 //! Lines are parted by `;` and counted from 1. `func NAME` and `loop NUM` are closed by `end`; a statement is its verb
 //! with a number; `chan NAME NUM`, `mutex NAME` and `set NAME KEY=VALUE ..` declare.
-use gp_cases::{Unanswered, word};
+use gp_cases::{Unanswered, halves, number_32, word, words};
 use gp_isa::{
     ChannelDecl, Channels, Function, Functions, LabelSet, LabelSets, MutexDecl, Mutexes, Pair,
     Pairs, Parts, Program, Stmt, Stmts, Text, What, check,
 };
+use sqlite_items::Boxed;
 use std::alloc::Global;
 use std::mem;
 
@@ -46,10 +47,10 @@ fn what(verb: &str, n: u32) -> Option<What> {
     }
 }
 
-fn pairs(alloc: Global, words: &str) -> Result<Pairs, Unanswered> {
+fn pairs(alloc: Global, row: &str) -> Result<Pairs, Unanswered> {
     let mut pairs = Pairs::new(alloc);
-    for word in words.split_whitespace() {
-        let (key, value) = word.split_once('=').ok_or(Unanswered::Form)?;
+    for word in words(alloc, row)? {
+        let (key, value) = halves(word, '=')?;
         pairs.push(Pair {
             key: Text::from_str(alloc, key)?,
             value: Text::from_str(alloc, value)?,
@@ -98,7 +99,7 @@ impl Builder {
                 self.body = around;
                 let what = What::Loop {
                     n: turns,
-                    body,
+                    body: Boxed::new(self.alloc, body)?,
                     end,
                 };
                 self.body.push(Stmt { line, what })?;
@@ -125,7 +126,7 @@ impl Builder {
             "chan" => self.parts.channels.push(ChannelDecl {
                 name,
                 line,
-                capacity: more.parse()?,
+                capacity: number_32(more)?,
             })?,
             "mutex" => self.parts.mutexes.push(MutexDecl { name, line })?,
             _ => self.parts.labels.push(LabelSet {
@@ -143,12 +144,12 @@ impl Builder {
         match verb {
             "" => {}
             "end" => self.end(line)?,
-            "loop" => self.begin(line, name.parse()?)?,
+            "loop" => self.begin(line, number_32(name)?)?,
             "func" | "chan" | "mutex" | "set" => {
                 self.declare(line, verb, Text::from_str(self.alloc, name)?, more)?
             }
             _ => {
-                let what = what(verb, name.parse()?).ok_or(Unanswered::Form)?;
+                let what = what(verb, number_32(name)?).ok_or(Unanswered::Form)?;
                 self.body.push(Stmt { line, what })?;
             }
         }

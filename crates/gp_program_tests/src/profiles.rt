@@ -1,7 +1,7 @@
 //! Goroutine profiles of records, as bytes in hexadecimal text.
 use crate::parts::program_of;
 use gp_build::goroutine_profile;
-use gp_cases::{Page, Unanswered, word};
+use gp_cases::{Page, Unanswered, halves, number_8, number_32, word, words};
 use gp_isa::{Frame, Program, Sequence};
 use gp_stack::{Record, Records, Stack};
 use gp_wire::{Profile, write};
@@ -10,23 +10,21 @@ use std::alloc::Global;
 /// Tells the bytes of a profile.
 pub fn tell_bytes(alloc: Global, page: &mut Page, profile: &Profile) -> Result<(), Unanswered> {
     let bytes = write(alloc, profile)?;
-    let text = hex::encode(alloc, bytes.as_slice())?;
-    page.line(text.as_str())?;
-    Ok(())
+    page.bytes(alloc, bytes.as_slice())
 }
 
 /// A frame, `FUNCTION:LINE`.
 pub fn frame(word: &str) -> Result<Frame, Unanswered> {
-    let (function, line) = word.split_once(':').ok_or(Unanswered::Form)?;
+    let (function, line) = halves(word, ':')?;
     Ok(Frame {
-        function: function.parse()?,
-        line: line.parse()?,
+        function: number_32(function)?,
+        line: number_32(line)?,
     })
 }
 
-fn stack(alloc: Global, words: &str) -> Result<Stack, Unanswered> {
+fn stack(alloc: Global, row: &str) -> Result<Stack, Unanswered> {
     let mut stack = Stack::new(alloc);
-    for word in words.split_whitespace() {
+    for word in words(alloc, row)? {
         stack.push(frame(word)?)?;
     }
     Ok(stack)
@@ -35,7 +33,7 @@ fn stack(alloc: Global, words: &str) -> Result<Stack, Unanswered> {
 // Adds the record of a row: its label set, and its frames, the leaf first.
 fn add_record(alloc: Global, records: &mut Records, row: &str) -> Result<(), Unanswered> {
     let (set, frames) = word(row);
-    let set = set.parse()?;
+    let set = number_8(set)?;
     records.push(Record {
         g: 0,
         stack: stack(alloc, frames)?,
@@ -124,7 +122,7 @@ fn tell_large(
 /// The figures of a large profile, of so many records: `COUNT PROGRAM`.
 pub fn large(alloc: Global, page: &mut Page, head: &str) -> Result<(), Unanswered> {
     let (count, text) = word(head);
-    let count: u32 = count.parse()?;
+    let count = number_32(count)?;
     let mut records = Records::new(alloc);
     for k in 0..count {
         add_numbered(alloc, &mut records, k)?;

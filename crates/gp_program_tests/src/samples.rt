@@ -2,7 +2,7 @@
 use crate::parts::program_of;
 use crate::profiles::{frame, tell_bytes};
 use gp_build::{Header, Kind, Site, Sites, StackSample, profile};
-use gp_cases::{Page, Unanswered, word};
+use gp_cases::{Page, Unanswered, halves, integer, word, words};
 use gp_isa::{Program, Sequence};
 use std::alloc::Global;
 
@@ -14,9 +14,9 @@ struct Given {
 }
 
 // The sites of words: `lost`, or a frame.
-fn sites(alloc: Global, words: &str) -> Result<Sites, Unanswered> {
+fn sites(alloc: Global, row: &str) -> Result<Sites, Unanswered> {
     let mut sites = Sequence::new(alloc);
-    for word in words.split_whitespace() {
+    for word in words(alloc, row)? {
         let site = match word {
             "lost" => Site::lost(),
             _ => Site::new(frame(word)?),
@@ -27,18 +27,18 @@ fn sites(alloc: Global, words: &str) -> Result<Sites, Unanswered> {
 }
 
 /// Numbers with blanks between them.
-pub fn numbers(alloc: Global, words: &str) -> Result<Sequence<i64>, Unanswered> {
+pub fn numbers(alloc: Global, row: &str) -> Result<Sequence<i64>, Unanswered> {
     let mut numbers = Sequence::new(alloc);
-    for word in words.split_whitespace() {
-        numbers.push(word.parse()?)?;
+    for word in words(alloc, row)? {
+        numbers.push(integer(word)?)?;
     }
     Ok(numbers)
 }
 
 impl Given {
     // A sample: its values, and its sites, the leaf first.
-    fn add_sample(&mut self, alloc: Global, words: &str) -> Result<(), Unanswered> {
-        let (values, stack) = words.split_once('/').ok_or(Unanswered::Form)?;
+    fn add_sample(&mut self, alloc: Global, row: &str) -> Result<(), Unanswered> {
+        let (values, stack) = halves(row, '/')?;
         let stack = sites(alloc, stack)?;
         self.samples.push(StackSample {
             stack,
@@ -54,8 +54,8 @@ impl Given {
         match field {
             "type" => self.header.types.push(Kind::new(alloc, name, unit)?)?,
             "period-type" => self.header.period_type = Some(Kind::new(alloc, name, unit)?),
-            "period" => self.header.period = name.parse()?,
-            "duration" => self.header.duration = name.parse()?,
+            "period" => self.header.period = integer(name)?,
+            "duration" => self.header.duration = integer(name)?,
             _ => self.add_sample(alloc, rest)?,
         }
         Ok(())
