@@ -6,6 +6,7 @@
 #![tactic(auto)]
 
 mod memory;
+mod one_byte;
 mod real;
 mod runs;
 mod tops;
@@ -23,11 +24,14 @@ impl Teller for OfRuns {
         let (kind, rest) = word(head);
         match kind {
             "words" => words::words(alloc, page, rows),
+            "picks" => words::picks(alloc, page, rows),
             "queue" => runs::queue(alloc, page),
             "run" => runs::run(alloc, page, rest, rows),
             "reads" => memory::reads(alloc, page, rows),
             "puts" => memory::puts(alloc, page, rows),
             "writes" => memory::writes(alloc, page, rows),
+            "whole" => memory::writes_whole(alloc, page, rows),
+            "told" => tops::told(alloc, page, rest, rows),
             _ => tops::top(alloc, page, rest, rows),
         }
     }

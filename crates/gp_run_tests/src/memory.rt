@@ -1,6 +1,7 @@
 //! The source, the store and the sink in memory, with the calls that are to fail.
-use gp_cases::{Page, Unanswered, word};
-use gp_io::{Calls, MemSink, MemSource, MemStore, Sink, Store, read_all};
+use crate::one_byte::OneByte;
+use gp_cases::{Page, Unanswered, number_32, number_64, word};
+use gp_io::{Calls, MemSink, MemSource, MemStore, Sink, Store, read_all, write_all};
 use gp_isa::Content;
 use std::alloc::{AllocError, Global};
 
@@ -32,7 +33,7 @@ fn read_twice(
 pub fn reads(alloc: Global, page: &mut Page, rows: &[&str]) -> Result<(), Unanswered> {
     for row in rows {
         let (failing, limit) = word(row);
-        read_twice(alloc, page, failing.parse()?, limit.parse()?)?;
+        read_twice(alloc, page, number_64(failing)?, number_32(limit)? as usize)?;
     }
     Ok(())
 }
@@ -58,5 +59,22 @@ pub fn writes(alloc: Global, page: &mut Page, rows: &[&str]) -> Result<(), Unans
         page.debug("\n", &sink.write(row.as_bytes()))?;
     }
     page.number("\n", sink.written().len() as u64)?;
+    Ok(())
+}
+
+/// What comes of texts written whole to a sink that takes one byte at a time, of which a write is to fail (0: none), and the
+/// text that it then has: `WRITE TEXT`.
+pub fn writes_whole(alloc: Global, page: &mut Page, rows: &[&str]) -> Result<(), Unanswered> {
+    for row in rows {
+        let (failing, text) = word(row);
+        let fails = Calls::from_slice(alloc, &[number_64(failing)?])?;
+        let mut sink = OneByte {
+            held: MemSink::new(alloc, fails),
+        };
+        page.debug("\n", &write_all(&mut sink, text.as_bytes()))?;
+        page.text("; ")?;
+        page.text(str::from_utf8(sink.held.written().as_slice()).unwrap_or("no text"))?;
+        page.text(".")?;
+    }
     Ok(())
 }

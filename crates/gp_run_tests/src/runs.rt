@@ -4,7 +4,7 @@ ghost use Rattle.gp_isa.specs.Limits.{instructions_per_second};
 ghost use Rattle.gp_journal.specs.Settings.{AreInRange};
 
 use crate::words::words_of;
-use gp_cases::{Page, Unanswered, word};
+use gp_cases::{Page, Unanswered, lines, number_32, word};
 use gp_isa::{Frame, Program};
 use gp_machine::{Entry, Machine, Queue, Run, Settings};
 use gp_sim::{Simulated, simulate};
@@ -15,7 +15,7 @@ use std::alloc::{AllocError, Global};
 use std::marker::Brand;
 
 fn program_of(alloc: Global, text: &str) -> Result<Program, Unanswered> {
-    let file = text.replace(alloc, ';', "\n")?;
+    let file = lines(alloc, text)?;
     if file.len() > 65536 {
         return Err(Unanswered::Form);
     }
@@ -28,7 +28,7 @@ fn settings_of(alloc: Global, line: &str) -> Result<Settings, Unanswered>
     let words = words_of(alloc, line)?;
     match job(alloc, words.as_slice()) {
         Ok(Job::Sim { settings, .. }) => Ok(settings),
-        Err(_) => Err(Unanswered::Form),
+        _ => Err(Unanswered::Form),
     }
 }
 
@@ -180,7 +180,7 @@ fn run_and_tell<R: Run>(
 /// program's file as the first row.
 pub fn run(alloc: Global, page: &mut Page, head: &str, rows: &[&str]) -> Result<(), Unanswered> {
     let (hz, line) = word(head);
-    let hz: u32 = hz.parse()?;
+    let hz = number_32(hz)?;
     let (text, rows) = rows.split_first().ok_or(Unanswered::Form)?;
     let program = program_of(alloc, text)?;
     let read = settings_of(alloc, line)?;

@@ -1,7 +1,8 @@
 //! Whole runs through the top call.
+use crate::one_byte::OneByte;
 use crate::runs::{tell_frames, tell_journal};
 use crate::words::words_of;
-use gp_cases::{Page, Unanswered, word};
+use gp_cases::{Page, Unanswered, lines, number_64, word};
 use gp_io::{Calls, Files, MemSink, MemSource, MemStore};
 use gp_isa::Content;
 use gp_machine::Entry;
@@ -71,8 +72,7 @@ fn tell_outcome(page: &mut Page, outcome: &Outcome, files: &Files) -> Result<(),
 
 fn tell_bytes(alloc: Global, page: &mut Page, files: &Files) -> Result<(), Unanswered> {
     for file in files.iter() {
-        let text = hex::encode(alloc, file.1.as_slice())?;
-        page.line(text.as_str())?;
+        page.bytes(alloc, file.1.as_slice())?;
     }
     Ok(())
 }
@@ -98,12 +98,12 @@ fn tell(
 }
 
 fn calls(alloc: Global, failing: &str) -> Result<Calls, Unanswered> {
-    let failing = failing.parse()?;
+    let failing = number_64(failing)?;
     Ok(Calls::from_slice(alloc, &[failing])?)
 }
 
 fn source(alloc: Global, text: &str, failing: &str) -> Result<MemSource, Unanswered> {
-    let file = text.replace(alloc, ';', "\n")?;
+    let file = lines(alloc, text)?;
     let content = Content::from_slice(alloc, file.as_bytes())?;
     Ok(MemSource::new(content, calls(alloc, failing)?))
 }
@@ -121,4 +121,31 @@ pub fn top(alloc: Global, page: &mut Page, head: &str, rows: &[&str]) -> Result<
     let mut sink = MemSink::new(alloc, Calls::new(alloc));
     let outcome = plain_top(alloc, words.as_slice(), &mut source, &mut store, &mut sink);
     tell(alloc, page, &outcome, store.files(), rows)
+}
+
+/// What a command line writes, to a sink that takes one byte at a time: `READ WRITE LINE`, the read and the write that are to
+/// fail (0: none) and the command line, and the program's file in the row. Told are the status, the names of the files that
+/// were put, and what was written, with a `;` for each line feed.
+pub fn told(alloc: Global, page: &mut Page, head: &str, rows: &[&str]) -> Result<(), Unanswered> {
+    let (failing_read, rest) = word(head);
+    let (failing_write, line) = word(rest);
+    let (_, text) = word(rows.first().ok_or(Unanswered::Form)?);
+    let words = words_of(alloc, line)?;
+    let mut source = source(alloc, text, failing_read)?;
+    let mut store = MemStore::new(alloc, Calls::new(alloc));
+    let mut sink = OneByte {
+        held: MemSink::new(alloc, calls(alloc, failing_write)?),
+    };
+    let outcome = plain_top(alloc, words.as_slice(), &mut source, &mut store, &mut sink);
+    page.number("\n", u64::from(outcome.status))?;
+    for file in store.files().iter() {
+        page.text(" ")?;
+        page.text(file.0.as_str())?;
+    }
+    let written = str::from_utf8(sink.held.written().as_slice()).unwrap_or("no text");
+    if !written.is_empty() {
+        page.text(" ")?;
+        page.text(written.replace(alloc, '\n', ";")?.as_str())?;
+    }
+    Ok(())
 }

@@ -4,10 +4,11 @@ use gp_machine::{Request, Settings};
 use gp_words::{Job, WordError, job};
 use std::alloc::{AllocError, Global};
 
-/// The words of a line, behind the program's name.
+/// The words of a line, behind the program's name. `''` stands for a word that is empty.
 pub fn words_of(alloc: Global, line: &str) -> Result<Vec<String>, Unanswered> {
     let mut words = Vec::new(alloc);
-    for word in line.split_whitespace().skip(1) {
+    for word in gp_cases::words(alloc, line)?.iter().skip(1) {
+        let word = if *word == "''" { "" } else { *word };
         words.push(word.to_string(alloc)?)?;
     }
     Ok(words)
@@ -44,15 +45,36 @@ fn tell_settings(page: &mut Page, settings: &Settings) -> Result<(), AllocError>
     page.number(" ", u64::from(settings.tags))
 }
 
+fn tell_job(page: &mut Page, job: &Job) -> Result<(), AllocError> {
+    match job {
+        Job::Run { file, settings } => {
+            page.line("run ")?;
+            page.text(file.as_str())?;
+            tell_settings(page, settings)
+        }
+        Job::Sim { file, settings } => {
+            page.line("sim ")?;
+            page.text(file.as_str())?;
+            tell_settings(page, settings)
+        }
+        Job::Gen { n, q, settings } => {
+            page.number("\ngen ", *n)?;
+            page.number(" ", u64::from(*q))?;
+            tell_settings(page, settings)
+        }
+        Job::Dump { file } => {
+            page.line("dump ")?;
+            page.text(file.as_str())
+        }
+    }
+}
+
 fn tell(page: &mut Page, said: Result<Job, WordError>) -> Result<(), Unanswered> {
     match said {
-        Ok(Job::Sim { file, settings }) => {
-            page.line(file.as_str())?;
-            tell_settings(page, &settings)?;
-        }
+        Ok(job) => tell_job(page, &job)?,
         Err(WordError::Usage { place, cause }) => {
-            page.number("\nfault ", u64::from(cause))?;
-            page.number(" at ", u64::from(place))?;
+            page.number("\nusage ", u64::from(place))?;
+            page.number(" ", u64::from(cause))?;
         }
         Err(WordError::Memory) => return Err(Unanswered::Memory),
     }
@@ -64,6 +86,18 @@ pub fn words(alloc: Global, page: &mut Page, rows: &[&str]) -> Result<(), Unansw
     for row in rows {
         let words = words_of(alloc, row)?;
         tell(page, job(alloc, words.as_slice()))?;
+    }
+    Ok(())
+}
+
+/// How many picks the words of each row give.
+pub fn picks(alloc: Global, page: &mut Page, rows: &[&str]) -> Result<(), Unanswered> {
+    for row in rows {
+        let words = words_of(alloc, row)?;
+        let Ok(Job::Sim { settings, .. }) = job(alloc, words.as_slice()) else {
+            return Err(Unanswered::Form);
+        };
+        page.number("\n", settings.picks.len() as u64)?;
     }
     Ok(())
 }
