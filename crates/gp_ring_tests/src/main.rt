@@ -4,7 +4,7 @@
 mod driver;
 
 use driver::Driver;
-use gp_cases::{Page, Teller, Unanswered, walk, word};
+use gp_cases::{Page, Teller, Unanswered, number_64, walk, word, words};
 use std::alloc::Global;
 
 /// Answers cases of rings.
@@ -13,9 +13,8 @@ struct OfRings;
 // The numbers of a row.
 fn numbers(alloc: Global, text: &str) -> Result<Vec<u64>, Unanswered> {
     let mut numbers = Vec::new(alloc);
-    for piece in text.split_whitespace() {
-        let number: u64 = piece.parse()?;
-        numbers.push(number)?;
+    for word in words(alloc, text)? {
+        numbers.push(number_64(word)?)?;
     }
     Ok(numbers)
 }
