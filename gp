@@ -6,6 +6,9 @@
 # a running gate nor an edit meanwhile comes in between. Crates that don't stand on each other are built side by side, as
 # many at once as processors and memory allow. Where this script is ended, it ends what it started. With GP_GATE=passed the
 # program that `rt ci` left is run as it is, and nothing is kept: .ci/run says so, right after the gate.
+#
+# What the program writes and its exit status are handed on untouched. For people there is a page of help, and on a terminal a
+# line in plain words behind a refusal; both are made of the tables of docs/COMMANDS.md, and go to the standard error.
 set -u -o pipefail
 top=$(dirname -- "$(readlink -f -- "${BASH_SOURCE[0]}")")
 kept=$top/out
@@ -103,18 +106,20 @@ ask_gate() {
   cd -- "$room/repo" && timeout --foreground 240 rt ci
 }
 
+# Copies what the program is made from, without what checks leave, into a folder that isn't there yet; rt wants a .git there.
+copy_sources() {
+  mkdir -- "$2" "$2/.git" && (cd -- "$1" && tar cf - --exclude=out crates crates.txt HANDLES) | tar xf - -C "$2"
+}
+
 # Proves a crate with so many jobs, and builds its library or the program. The kit keeps others out of the folders of a crate
 # and of those below it while it works, so each crate is built in copies of its own, and what it leaves goes back.
 make() {
   local name=$1 jobs=$2 own=$room/own.$1 one
-  mkdir -p -- "$own/.git" "$own/crates" && cp -- "$room/repo/crates.txt" "$room/repo/HANDLES" "$own" || return
-  for one in "$room"/repo/crates/*; do
-    mkdir -- "$own/crates/${one##*/}" && cp -a -- "$one"/[!o]* "$own/crates/${one##*/}/" || return
-  done
+  copy_sources "$room/repo" "$own" || return
   for one in "${!built[@]}"; do cp -a -- "$room/out/$one" "$own/crates/$one/out" || return; done
   cd -- "$own/crates/$name" || return
   if [ "$name" = gp_prog ]; then
-    # (without words it reads and writes nothing, and ends with status 1)
+    # (without words it reads nothing, writes its refusal, and ends with status 1)
     rt run --jobs "$jobs"
     mv -- out/gp_prog "$room/gp"
   else
@@ -169,8 +174,7 @@ take() {
 prepare() {
   local sum
   room=$(mktemp -d) || stop "no temporary folder"
-  mkdir -- "$room/repo" "$room/repo/.git" || stop "cannot write $room"
-  (cd -- "$top" && tar cf - --exclude=out crates crates.txt HANDLES) | tar xf - -C "$room/repo" || stop "cannot copy the sources to $room"
+  copy_sources "$top" "$room/repo" || stop "cannot copy the sources to $room"
   sum=$(sum_of "$room/repo") || stop "cannot read the sources that were copied to $room"
   if [ -e "$top/crates/gp_prog/out/gp_prog.by-rattle" ]; then
     tell "asking rt ci for what it proved of these sources; this is done once"
@@ -197,8 +201,83 @@ leave() {
   rm -f -- "$kept/gp.$$" "$kept/gp.sum.$$"
 }
 
+# The rows of the first table under this heading of docs/COMMANDS.md: their cells, with tabs between, without backquotes.
+rows_of() {
+  awk -F ' *[|] *' -v heading="## $1" '
+    /^## / { here = $0 == heading; next }
+    here && seen && !/^[|]/ { exit }
+    here && /^[|]/ && ++seen > 2 { line = $2; for (i = 3; i < NF; i++) line = line "\t" $i; gsub(/`/, "", line); print line }' "$top/docs/COMMANDS.md"
+}
+
+# The second cell of the row that begins with this cell.
+cell() { rows_of "$1" | awk -F '\t' -v key="$2" '$1 == key { print $2; exit }'; }
+
+# The page for people.
+show_help() {
+  cat <<'END'
+gp runs a program of a small goroutine machine, and writes profiles of it that pprof opens. What they show is proved.
+
+  gp sim FILE [options]      runs FILE in an order that numbers choose
+  gp --help                  prints this page
+
+options, each a word and its value (where it isn't given: the value in brackets):
+END
+  rows_of Words | awk -F '\t' '{ printf "  %-10s %s (%s)\n", $1, $2, $3 }'
+  printf '\nexit statuses:\n'
+  rows_of 'Exit statuses' | awk -F '\t' '{ printf "  %-10s %s\n", $1, $2 }'
+  printf '\n%s\n' "$top/docs/COMMANDS.md has all words, statuses and lines, $top/README.md the rest."
+}
+
+# What a refusal's line says, in plain words. The words behind it are those that the program was called with.
+in_plain_words() {
+  local said=$1 place cause what
+  shift
+  case $said in
+    'usage '*)
+      read -r _ place cause <<<"$said"
+      what=$(cell 'Causes of status 1' "$cause")
+      if [ "$place" -lt "$#" ]; then place="word $place, '${*:place + 1:1}'"; else place='behind the last word'; fi
+      ;;
+    'refused line '*)
+      read -r _ _ place _ cause <<<"$said"
+      what=$(cell 'Causes of status 2' "$cause")
+      if [ "$place" = 0 ]; then place='the file'; else place="line $place"; fi
+      ;;
+    *)
+      what=$(cell Lines "$said")
+      place='the file'
+      ;;
+  esac
+  [ -z "$what" ] || printf '%s: %s\n' "$place" "$what" >&2
+}
+
+# Runs a program in place of this script. On a terminal its first line is kept, to be told in plain words where it refuses.
+launch() {
+  local program=$1 said status
+  shift
+  [ -t 1 ] && [ -t 2 ] || exec "$program" "$@"
+  exec 3>&1
+  said=$(
+    "$program" "$@" | LC_ALL=C awk '{ print >"/dev/fd/3" } NR == 1'
+    exit "${PIPESTATUS[0]}"
+  )
+  status=$?
+  # (without words the page of help says enough)
+  [ $# = 0 ] || case $status in 1 | 2 | 3) in_plain_words "$said" "$@" ;; esac
+  exit "$status"
+}
+
+if [ $# = 0 ]; then
+  show_help >&2
+elif [ $# = 1 ]; then
+  case $1 in --help | -h | help)
+    show_help >&2
+    exit
+    ;;
+  esac
+fi
 if [ "${GP_GATE:-}" = passed ] && [ -x "$top/crates/gp_prog/out/gp_prog" ]; then
-  exec "$top/crates/gp_prog/out/gp_prog" "$@"
+  launch "$top/crates/gp_prog/out/gp_prog" "$@"
 fi
 command -v rt >/dev/null || stop "the Rattle kit's command rt isn't there"
 kit=$(rt version 2>&1) || stop "rt version failed: $kit"
@@ -222,4 +301,4 @@ if ! is_kept "$sum"; then
   trap - EXIT HUP INT TERM
   exec 9>&-
 fi
-exec "$kept/gp" "$@"
+launch "$kept/gp" "$@"

@@ -1,6 +1,6 @@
 #!/usr/bin/env bash
 # Runs the program on every example, in the folder that this is started in, and looks at its exit status, at what it
-# prints (nothing) and at the files that it puts: byte by byte where the bytes are known, and through Go's pprof and protoc
+# prints (nothing: what it refuses is in refusals.sh) and at the files that it puts: byte by byte where the bytes are known, and through Go's pprof and protoc
 # where they are there. What is expected is worked out by hand from the rules of the machine.
 set -u
 export LC_ALL=C
@@ -25,14 +25,6 @@ run() {
   [ "$got" = "$wanted" ] || fail "gp $*: status $got in place of $wanted"
   [ -z "$said" ] || fail "gp $*: it printed '$said'"
   [ "${put% }" = "$files" ] || fail "gp $*: it put '${put% }' in place of '$files'"
-}
-
-# refused TEXT: a file that holds this text (printf's escapes) is no program.
-refused() {
-  local before=$failures
-  printf "$1" >refused.gp
-  run 2 '' sim refused.gp --at 0
-  [ "$failures" = "$before" ] || echo "  (refused.gp holds '$1')"
 }
 
 # In CI the tools may be installed; a user's machine is left as it is.
@@ -81,6 +73,19 @@ samples() {
   [ "$got" = "$wanted" ] || fail "pprof shows of $file: '$got' in place of '$wanted'"
 }
 
+# tags FILE KEY PATTERN..: of this key pprof shows a line for each value that fits, in this order, and no other.
+tags() {
+  local file=$1 key=$2 shown_values pattern line
+  shift 2
+  [ "$has_go" = yes ] || return
+  shown_values=$(go tool pprof -tags "$file" 2>/dev/null | awk -v key="$key:" '$1 == key { on = 1; next } /^ *$/ { on = 0 } on')
+  [ "$(grep -c . <<<"$shown_values")" = $# ] || fail "pprof -tags $file shows of $key: '$shown_values'"
+  for pattern in "$@"; do
+    line=${shown_values%%$'\n'*} shown_values=${shown_values#*$'\n'}
+    tr -d ':' <<<"$line" | grep -Eq -- "$pattern" || fail "pprof -tags $file shows of $key '$line' in place of '$pattern'"
+  done
+}
+
 # decoded FILE PATTERN: protoc's print of the message, on one line, has a part that fits.
 decoded() {
   [ "$has_protoc" = yes ] || return
@@ -104,7 +109,7 @@ command -v protoc >/dev/null && has_protoc=yes
 [ "$has_protoc" = yes ] || echo "skipped: no protoc"
 
 # The launcher may have to prove and build first, and says so.
-"$gp" >/dev/null
+"$gp" sim >/dev/null
 [ $? != 125 ] || exit 1
 
 # The smallest program: 76 known bytes.
@@ -124,51 +129,16 @@ decoded goroutine.1.pb '^1 \{ 1: 1 2: 2 \} '
 decoded goroutine.1.pb ' 4 \{ 1: 1 4 \{ 1: 1 2: 2 \} \} '
 texts goroutine.1.pb main a.gp
 
-# Words that give no job: nothing is read and nothing is put.
-run 1 ''
-run 1 '' sim
-run 1 '' simulate a.gp
-run 1 '' sim ''
-run 1 '' sim -a.gp
-run 1 '' sim a.gp --at
-run 1 '' sim a.gp --at 1099511627777
-run 1 '' sim a.gp --at -1
-run 1 '' sim a.gp --room=1
-run 1 '' sim a.gp --rooms 1
-run 1 '' sim a.gp --room 1 --room 1
-run 1 '' sim a.gp --workers 17
-run 1 '' sim a.gp --picks 1,,2
-run 1 '' sim a.gp --at 0 --at 0 --at 0 --at 0 --at 0 --at 0 --at 0 --at 0 --at 0
-run 1 '' sim missing.gp --at
-run 11 '' sim a.gp --at $'\xff'
-
-# Files that are no programs, and files that can't be read.
-refused ''
-refused 'func main {\n\twork 1\n}\n'
-refused 'func main {\nwork 0\n}\n'
-refused 'func main {\nwork 1\n'
-refused 'func main {\n}\n'
-refused 'func main {\nsend c\n}\n'
-refused 'func main {\ncall main\n}\n'
-refused 'func main {\nwork 1\n\xff\n}\n'
-refused 'mutex m\nmutex m\nfunc main {\nlock m\n}\n'
-refused 'chan c 65536\nfunc main {\nsend c\n}\n'
-refused 'func f {\nwork 1\n}\n'
-refused '\x1f\x8b\x08'
-# (of two files alike but for a digit, one has a mebibyte, and the other one byte more)
-long() {
+# A file of a mebibyte.
+{
   echo 'func main {'
   yes 'work 1' | head -n 149793
-  printf 'work %s\n}\n' "$1"
-}
-long 10000 >whole.gp
+  printf 'work 10000\n}\n'
+} >whole.gp
 run 0 goroutine.1.pb sim whole.gp --at 0
-long 100000 >refused.gp
-run 2 '' sim refused.gp --at 0
-run 3 '' sim missing.gp --at 0
-run 3 '' sim . --at 0
 
 # A profile that can't be put, since a folder has its name.
+rm -f -- goroutine.1.pb
 mkdir goroutine.1.pb
 run 4 '' sim a.gp --at 0
 rmdir goroutine.1.pb
@@ -252,6 +222,14 @@ for file in examples/*.gp; do
       run 0 goroutine.1.pb sim "$file" --workers 1 --at 1001
       samples goroutine.1.pb "2 b@$file:13" "1 main@$file:8"
       texts goroutine.1.pb b "$file" main
+      ;;
+    examples/service.gp)
+      # all requests are answered, and whoever answers waits for the next one: three for reads, two for writes
+      run 6 goroutine.1.pb sim "$file" --at end
+      samples goroutine.1.pb "3 reader@$file:34" "2 writer@$file:42" "1 main@$file:29"
+      texts goroutine.1.pb reader "$file" kind read tier front writer write main
+      tags goroutine.1.pb kind '3.0 .* read' '2.0 .* write'
+      tags goroutine.1.pb tier '5.0 .* front'
       ;;
     examples/deadlock.gp)
       run 6 goroutine.1.pb sim "$file" --workers 1 --at end
