@@ -1,8 +1,8 @@
 -- Pairs that are put in their places one after another: their keys rise, and what holds of each pair stays so.
-use Rattle.std.proofs.Common.{◌≡◌, ℕ, zero, suc, ◌+◌, ◌<◌, ◌≤◌, List, [], ◌∷◌, ◌++◌, length, get_or, refl, sym, ap, subst, ◌∙◌, arith, add-one, append_assoc, Ordering}
+use Rattle.std.proofs.Common.{◌≡◌, ℕ, zero, suc, ◌+◌, ◌<◌, ◌≤◌, List, [], ◌∷◌, ◌++◌, length, get_or, refl, sym, ap, ◌∙◌, arith, add-one, append_assoc, Ordering}
 use Rattle.std.specs.Prelude.{fold}
 use Rattle.std.specs.declared.cmp.Ordering.TheVariants.{Less, Equal, Greater}
-use Rattle.std.specs.Ordering.{nat_cmp, match_ordering, ordering_reverse}
+use Rattle.std.specs.Ordering.{nat_cmp, ordering_reverse}
 use Rattle.std.specs.Cmp.Lexicographic.{slice_cmp}
 use Rattle.std.specs.List.{AllByRecursion}
 use Rattle.std.proofs.lemmas.Cmp.{nat_list_cmp_total}
@@ -99,7 +99,8 @@ each_put K V (q ∷ qs) p all one = elim (ordered (key_cmp p.key q.key)) [
   | IsGreater e ↦ rw e (all.0, each_put K V qs p all.1 one)
 ]
 
-each_fold : (K V : List ℕ → Type 0) (set pairs : List Pair) → AllByRecursion (λ (q : Pair). K q.key × V q.value) set → AllByRecursion (λ (q : Pair). K q.key × V q.value) pairs → AllByRecursion (λ (q : Pair). K q.key × V q.value) (fold with_pair set pairs)
+each_fold : (K V : List ℕ → Type 0) (set pairs : List Pair) → AllByRecursion (λ (q : Pair). K q.key × V q.value) set → AllByRecursion (λ (q : Pair). K q.key × V q.value) pairs →
+    AllByRecursion (λ (q : Pair). K q.key × V q.value) (fold with_pair set pairs)
 each_fold K V set [] all more = all
 each_fold K V set (p ∷ pairs) all more = each_fold K V (with_pair set p) pairs (each_put K V set p all more.0) more.1
 

@@ -1,10 +1,9 @@
 -- The value of a key, and a map by key as it is filled.
-use Rattle.std.proofs.Common.{◌≡◌, ◌⊎◌, inl, inr, ℕ, Bool, true, false, cond, List, [], ◌∷◌, refl, sym, ap, ◌∙◌, Ordering, Option, Some, None}
+use Rattle.std.proofs.Common.{◌≡◌, ◌⊎◌, inl, inr, ℕ, Bool, true, false, List, [], ◌∷◌, refl, sym, ap, ◌∙◌, Ordering}
 use Rattle.std.specs.Prelude.{fold, map, String, string_bytes}
 use Rattle.std.specs.Global.{Global}
-use Rattle.std.specs.declared.cmp.Ordering.TheVariants.{Less, Equal, Greater}
-use Rattle.std.specs.Ordering.{nat_cmp, is_eq}
-use Rattle.std.specs.Cmp.Lexicographic.{slice_cmp}
+use Rattle.std.specs.declared.cmp.Ordering.TheVariants.{Less, Equal}
+use Rattle.std.specs.Ordering.{is_eq}
 use Rattle.std.specs.Str.{bytes_eq}
 use Rattle.std.specs.String.{string_cmp}
 use Rattle.std.specs.BTreeMap.{insert_entry}
@@ -14,10 +13,11 @@ use Rattle.std.proofs.lemmas.Map.Text.{is_eq-slice_cmp}
 use Rattle.gp_isa.specs.declared.parts.Pair.{Pair}
 use Rattle.gp_labels.specs.LabelSet.{with_pair, canonical_of, value_of, later, last_value}
 use Rattle.gp_labels.specs.Entry.{pair_of_entry}
-use Rattle.gp_labels.proofs.Puts.{key_cmp, Ordered, IsLess, IsEqual, IsGreater, ordered, turned}
+use Rattle.gp_labels.proofs.Puts.{key_cmp, IsLess, IsEqual, IsGreater, ordered, turned}
 
 -- an entry is put as its pair is
-pub put_entry : (entries : List (String Global × String Global)) (key value : String Global) → map pair_of_entry (insert_entry string_cmp entries key value) ≡ with_pair (map pair_of_entry entries) (record { key = string_bytes key; value = string_bytes value })
+pub put_entry : (entries : List (String Global × String Global)) (key value : String Global) →
+    map pair_of_entry (insert_entry string_cmp entries key value) ≡ with_pair (map pair_of_entry entries) (record { key = string_bytes key; value = string_bytes value })
 put_entry [] key value = refl
 put_entry (e ∷ entries) key value = elim (ordered (key_cmp (string_bytes key) (string_bytes e.0))) [
   | IsLess is ↦ rw is refl

@@ -1,5 +1,5 @@
 -- The pair that an entry of a map by key stands for.
-use Rattle.std.specs.Prelude.{ℕ, List, String, string_bytes}
+use Rattle.std.specs.Prelude.{String, string_bytes}
 use Rattle.std.specs.Global.{Global}
 use Rattle.gp_isa.specs.declared.parts.Pair.{Pair}
 

@@ -1,4 +1,4 @@
-use Rattle.std.proofs.Common.{◌≡◌, ℕ, List, subst, sym, ap, ◌∙◌, Result, Ok, Err, IfOk}
+use Rattle.std.proofs.Common.{◌≡◌, ℕ, List, subst, sym, ◌∙◌, Result, Ok, Err, IfOk}
 use Rattle.gp_isa.specs.declared.parts.Pair.{Pair}
 use Rattle.gp_isa.specs.InLimits.{KeysRise}
 use Rattle.gp_labels.specs.LabelSet.{canonical_of, value_of, last_value}

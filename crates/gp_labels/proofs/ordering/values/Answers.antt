@@ -15,7 +15,8 @@ nothing_left [] h = refl
 nothing_left (x ∷ xs) h = absurd (omega arith)
 
 -- one more entry
-more : (old new : List (String Global × String Global)) (key value : String Global) (pair : Pair) (items rest all : List Pair) → new ≡ insert_entry string_cmp old key value → string_bytes key ≡ pair.key → string_bytes value ≡ pair.value → items ≡ pair ∷ rest
+more : (old new : List (String Global × String Global)) (key value : String Global) (pair : Pair) (items rest all : List Pair) → new ≡ insert_entry string_cmp old key value → string_bytes key ≡ pair.key →
+    string_bytes value ≡ pair.value → items ≡ pair ∷ rest
     → fold with_pair (map pair_of_entry old) items ≡ fold with_pair [] all → fold with_pair (map pair_of_entry new) rest ≡ fold with_pair [] all
 more old new key value pair items rest all is key_is value_is steps so_far =
     let entries = map pair_of_entry old in
@@ -32,7 +33,8 @@ one_fewer len now items rest pair steps gone was = let short = ap length steps i
 pub loop-pair-preserved : goal.loop-pair-preserved
 loop-pair-preserved c = record {
   ahead =
-      more c.loop-pair.values.entries c.insert.new.self.entries c.into_string.result c.into_string-in-loop-pair.result c.in-Some.pair (into_iter_items c.loop-pair.pair-iterator) (into_iter_items c.next.new.self) (into_iter_items c.into_iter-pair-iterator.result) c.in_ok-insert.ensures.entries
+      more c.loop-pair.values.entries c.insert.new.self.entries c.into_string.result c.into_string-in-loop-pair.result c.in-Some.pair (into_iter_items c.loop-pair.pair-iterator) (into_iter_items
+      c.next.new.self) (into_iter_items c.into_iter-pair-iterator.result) c.in_ok-insert.ensures.entries
       c.into_string.ensures c.into_string-in-loop-pair.ensures c.in-Some.ensures.steps.0 c.loop-pair.invariant.ahead;
   count = one_fewer _ _ (into_iter_items c.loop-pair.pair-iterator) (into_iter_items c.next.new.self) c.in-Some.pair c.in-Some.ensures.steps.0 c.in-Some.ensures.steps.1 c.loop-pair.invariant.count;
 }
@@ -40,7 +42,8 @@ loop-pair-preserved c = record {
 pub loop-pair-preserved-in_ok-insert : goal.loop-pair-preserved-in_ok-insert
 loop-pair-preserved-in_ok-insert c = record {
   ahead =
-      more c.loop-pair.values.entries c.insert.new.self.entries c.into_string.result c.into_string-in-loop-pair.result c.in-Some.pair (into_iter_items c.loop-pair.pair-iterator) (into_iter_items c.next.new.self) (into_iter_items c.into_iter-pair-iterator.result) c.in_ok-insert.ensures.entries
+      more c.loop-pair.values.entries c.insert.new.self.entries c.into_string.result c.into_string-in-loop-pair.result c.in-Some.pair (into_iter_items c.loop-pair.pair-iterator) (into_iter_items
+      c.next.new.self) (into_iter_items c.into_iter-pair-iterator.result) c.in_ok-insert.ensures.entries
       c.into_string.ensures c.into_string-in-loop-pair.ensures c.in-Some.ensures.steps.0 c.loop-pair.invariant.ahead;
   count = one_fewer _ _ (into_iter_items c.loop-pair.pair-iterator) (into_iter_items c.next.new.self) c.in-Some.pair c.in-Some.ensures.steps.0 c.in-Some.ensures.steps.1 c.loop-pair.invariant.count;
 }
