@@ -93,7 +93,8 @@ pub read_deep : (built now : List Said) (deep next : ℕ) (s : Said) → deep �
 read_deep built now deep next s few next_is pushed = let more = one_deeper deep s in omega (arith, ap length pushed, length-append built (s ∷ []))
 
 -- the last line is read, or there is none
-pub read_last : (built now : List Said) (deep : ℕ) (rest bytes : List ℕ) → built ++ said_from deep (lines_of rest) ≡ said_from 0 (lines_of bytes) → position is_lf rest ≡ None → 0 < length rest → now ≡ built ++ said_of (nat_lt 0 deep) rest ∷ [] → now ≡ said_from 0 (lines_of bytes)
+pub read_last : (built now : List Said) (deep : ℕ) (rest bytes : List ℕ) → built ++ said_from deep (lines_of rest) ≡ said_from 0 (lines_of bytes) → position is_lf rest ≡ None → 0 < length rest →
+    now ≡ built ++ said_of (nat_lt 0 deep) rest ∷ [] → now ≡ said_from 0 (lines_of bytes)
 unfolding said_from
 read_last built now deep rest bytes inv none some pushed =
     pushed ∙ ap (λ (l : List Said). built ++ l) (sym (ap (said_from deep) (last_line rest none some))) ∙ inv

@@ -1,7 +1,7 @@
 -- The parts of lines without fault lie in their limits.
-use Rattle.std.proofs.Common.{◌≡◌, inl, inr, ℕ, zero, suc, ◌+◌, ◌-◌, ◌<◌, ◌≤◌, Bool, true, false, not, ◌&&◌, cond, List, [], ◌∷◌, ◌++◌, length, get_or, take, drop, refl, sym, ap, subst, ◌∙◌, arith, add-one, nat_le, nat_lt, Option}
+use Rattle.std.proofs.Common.{◌≡◌, inl, inr, ℕ, zero, suc, ◌+◌, ◌<◌, ◌≤◌, Bool, true, false, not, ◌&&◌, cond, List, [], ◌∷◌, ◌++◌, length, get_or, refl, sym, ap, subst, ◌∙◌, arith, nat_le, nat_lt, Option}
 use Rattle.std.specs.Prelude.{map, position, unwrap_or, option_to_list}
-use Rattle.std.specs.List.{list_any, list_all, IsDistinct, AllByRecursion, position_or_len, before_first}
+use Rattle.std.specs.List.{list_any, list_all, AllByRecursion, position_or_len, before_first}
 use Rattle.std.specs.Str.{bytes_eq}
 use Rattle.std.proofs.lemmas.List.{length-map, map-append}
 use Rattle.std.proofs.lemmas.List.Elements.{All-from_recursion}
@@ -29,36 +29,36 @@ use Rattle.gp_text.specs.declared.said.Declared.TheVariants.{Function as AFuncti
 use Rattle.gp_text.specs.declared.said.Said.{Said}
 use Rattle.gp_text.specs.declared.said.Said.TheVariants.{NotUtf8, Nonsense, Silent, Declares, Loop, Work, Use, Close}
 use Rattle.gp_text.specs.Line.{is_name, has_length, begins_name, continues_name, is_equals, is_pair, pair_of, deep_after}
-use Rattle.gp_text.specs.Fault.{Known, known_of, names, declared_in, same_space, kind_of, pair_fits, pairs_fit, fits, space_of, is_among, is_unknown}
-use Rattle.gp_text.specs.Reading.{place_of, action, statement, statement_of, Block, first, others, in_front, line_in_front, blocks_at, function_with, functions_at, channel_of, mutex_of, label_set_of, each_at, parts_of}
+use Rattle.gp_text.specs.Fault.{Known, known_of, names, declared_in, same_space, kind_of, pair_fits, space_of, is_among, is_unknown}
+use Rattle.gp_text.specs.Reading.{place_of, action, statement, Block, first, others, in_front, blocks_at, function_with, functions_at, channel_of, mutex_of, label_set_of, each_at, parts_of}
 use Rattle.gp_text.proofs.Told.{told}
 use Rattle.gp_text.proofs.Texts.{both_left, both_right}
 use Rattle.gp_text.proofs.WordCuts.{next_of}
-use Rattle.gp_text.proofs.Behind.{same_is}
-use Rattle.gp_text.proofs.InLimits.{AllDeep, Fits, ArePairWords, Written, Named, AreSound}
+use Rattle.gp_text.proofs.InLimits.{AllDeep, Fits, Written, Named, AreSound}
 
 -- the names of the parts are those that the lines declare
-function_names : (known : Known) (line : ℕ) (said : List Said) → map (λ (f : Function). f.name) (functions_at known line said) ≡ names Functions said
+pub function_names : (known : Known) (line : ℕ) (said : List Said) → map (λ (f : Function). f.name) (functions_at known line said) ≡ names Functions said
 unfolding functions_at
 function_names known line [] = refl
 function_names known line (Declares name AFunction ∷ after) = ap (λ l. name ∷ l) (function_names known (line + 1) after)
 function_names known line (s ∷ after) = function_names known (line + 1) after
 
-each_names : {X : Type 0} (of : ℕ → Said → Option X) (name : X → List ℕ) (space : Space) → ((line : ℕ) (s : Said) → map name (option_to_list (of line s)) ≡ declared_in space s) → (line : ℕ) (said : List Said) → map name (each_at of line said) ≡ names space said
+pub each_names : {X : Type 0} (of : ℕ → Said → Option X) (name : X → List ℕ) (space : Space) → ((line : ℕ) (s : Said) → map name (option_to_list (of line s)) ≡ declared_in space s) → (line : ℕ) (said : List Said) →
+    map name (each_at of line said) ≡ names space said
 unfolding each_at
 each_names of name space one line [] = refl
 each_names of name space one line (s ∷ after) =
     map-append name (option_to_list (of line s)) (each_at of (line + 1) after) ∙ ap (λ l. l ++ map name (each_at of (line + 1) after)) (one line s) ∙ ap (λ l. declared_in space s ++ l) (each_names of name space one (line + 1) after)
 
-channel_name : (line : ℕ) (s : Said) → map (λ (c : ChannelDecl). c.name) (option_to_list (channel_of line s)) ≡ declared_in Channels s
+pub channel_name : (line : ℕ) (s : Said) → map (λ (c : ChannelDecl). c.name) (option_to_list (channel_of line s)) ≡ declared_in Channels s
 channel_name line (Declares name (Channel capacity)) = refl
 channel_name line s = refl
 
-mutex_name : (line : ℕ) (s : Said) → map (λ (m : MutexDecl). m.name) (option_to_list (mutex_of line s)) ≡ declared_in Mutexes s
+pub mutex_name : (line : ℕ) (s : Said) → map (λ (m : MutexDecl). m.name) (option_to_list (mutex_of line s)) ≡ declared_in Mutexes s
 mutex_name line (Declares name Mutex) = refl
 mutex_name line s = refl
 
-label_name : (line : ℕ) (s : Said) → map (λ (l : LabelSet). l.name) (option_to_list (label_set_of line s)) ≡ declared_in LabelSets s
+pub label_name : (line : ℕ) (s : Said) → map (λ (l : LabelSet). l.name) (option_to_list (label_set_of line s)) ≡ declared_in LabelSets s
 label_name line (Declares name (ALabelSet pairs)) = refl
 label_name line s = refl
 
@@ -94,7 +94,7 @@ are_names : (said : List Said) (space : Space) → AllDeep Named 0 said → AreS
 are_names said space named sound = record { short = All-from_recursion IsShort (names space said) (short_names 0 said space named); distinct = sound.distinct space }
 
 -- a known name has a place
-found_below : {X : Type 0} (p : X → Bool) (xs : List X) → list_any p xs ≡ true → position_or_len p xs < length xs
+pub found_below : {X : Type 0} (p : X → Bool) (xs : List X) → list_any p xs ≡ true → position_or_len p xs < length xs
 found_below p [] h = absurd cc
 found_below p (x ∷ xs) h = elim (told (p x)) [
   | inl t ↦ rw t (omega arith)
@@ -125,7 +125,7 @@ use_fits parts known W line Unlock name counts among = let less = place_below (b
 use_fits parts known W line Labels name counts among =
     let less = place_below (bytes_eq name) (known LabelSets) among in subst (IsAction parts W) (sym (action-labels (place_of known Labels name + 1))) (omega arith, omega (arith, counts.labels, less))
 
-known_name : (known : Known) (verb : Verb) (name : List ℕ) → is_unknown known (Use verb name) ≡ false → is_among name (known (space_of verb)) ≡ true
+pub known_name : (known : Known) (verb : Verb) (name : List ℕ) → is_unknown known (Use verb name) ≡ false → is_among name (known (space_of verb)) ≡ true
 known_name known verb name h = elim (told (is_among name (known (space_of verb)))) [
   | inl t ↦ t
   | inr f ↦ let e : true ≡ false = rw f at h in absurd cc
@@ -193,7 +193,7 @@ sound_next parts known deep next s after sound e = record {
   usable = sound.usable.1;
 }
 
-loop_room : (deep turns : ℕ) → Fits deep (Loop turns) → (1 ≤ turns) × (deep ≤ 8)
+pub loop_room : (deep turns : ℕ) → Fits deep (Loop turns) → (1 ≤ turns) × (deep ≤ 8)
 unfolding Fits
 loop_room deep turns fit = (fit.0.0, fit.1)
 
@@ -201,7 +201,7 @@ work_count : (deep n : ℕ) → Fits deep (Work n) → 1 ≤ n
 unfolding Fits
 work_count deep n fit = fit.0
 
-outside_of : (deep : ℕ) (name : List ℕ) (declared : Declared) → Named deep (Declares name declared) → deep ≡ 0
+pub outside_of : (deep : ℕ) (name : List ℕ) (declared : Declared) → Named deep (Declares name declared) → deep ≡ 0
 unfolding Named
 outside_of deep name declared named = named.0
 
@@ -288,7 +288,8 @@ set_fits deep name pairs fit named =
     let few = short (both_left (nat_le (length pairs) 16) (list_all pair_fits pairs) fit) in
     record {
       few = omega (arith, canonical-few (map pair_of pairs), length-map pairs pair_of, few);
-      each = All-from_recursion IsPair (canonical_of (map pair_of pairs)) (is_pair_each (canonical_of (map pair_of pairs)) (canonical-each IsKey IsValue (map pair_of pairs) (pair_words pairs named.2.formed (both_right (nat_le (length pairs) 16) (list_all pair_fits pairs) fit))));
+      each = All-from_recursion IsPair (canonical_of (map pair_of pairs)) (is_pair_each (canonical_of (map pair_of pairs)) (canonical-each IsKey IsValue (map pair_of pairs) (pair_words pairs
+          named.2.formed (both_right (nat_le (length pairs) 16) (list_all pair_fits pairs) fit))));
       rising = canonical-keys_rise (map pair_of pairs);
     }
 

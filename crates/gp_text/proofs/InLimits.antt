@@ -1,6 +1,6 @@
 -- What lines without fault are, one behind another, and what each says.
-use Rattle.std.proofs.Common.{◌≡◌, inl, inr, ℕ, ◌+◌, ◌<◌, ◌≤◌, ◌==◌, Bool, true, false, not, ◌&&◌, List, [], ◌∷◌, ◌++◌, length, refl, sym, ap, ◌∙◌, arith, Option, Some, None, nat_le, nat_lt, append_assoc, length-append}
-use Rattle.std.specs.Prelude.{map, All, codes, fold}
+use Rattle.std.proofs.Common.{◌≡◌, inl, inr, ℕ, ◌<◌, ◌≤◌, true, false, ◌&&◌, List, [], ◌∷◌, ◌++◌, length, refl, sym, ◌∙◌, arith, Option, Some, None, nat_le, nat_lt, append_assoc, length-append}
+use Rattle.std.specs.Prelude.{All, codes, fold}
 use Rattle.std.specs.List.{IsDistinct, AllByRecursion, list_all}
 use Rattle.std.specs.Str.{IsUtf8, bytes_eq, is_utf8}
 use Rattle.std.specs.Cmp.Lexicographic.{nat_list_eq_equiv}
@@ -23,7 +23,7 @@ use Rattle.gp_text.specs.CanBuild.{CanDeclare, CanBuild}
 use Rattle.gp_text.proofs.Told.{told, either}
 use Rattle.gp_text.proofs.Texts.{both_left, both_right}
 use Rattle.gp_text.proofs.WordCuts.{IsClean, IsLine, words_texts, words_clean}
-use Rattle.gp_text.proofs.Behind.{Adds, adds, names_more, no_fault, first_passed, fresh, IsFresh}
+use Rattle.gp_text.proofs.Behind.{Adds, adds, names_more, no_fault, first_passed, fresh}
 
 -- what holds of each line, with how many bodies are open before it
 abbrev pub AllDeep : (ℕ → Said → Type 0) → ℕ → List Said → Type 0

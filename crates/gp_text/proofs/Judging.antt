@@ -1,8 +1,8 @@
 -- What each pass makes of a file.
-use Rattle.std.proofs.Common.{◌≡◌, inl, inr, ℕ, ◌+◌, ◌^◌, ◌<◌, ◌≤◌, Bool, true, false, List, [], ◌∷◌, length, refl, sym, ap, subst, ◌∙◌, arith, Some, None, length-append, nat_lt, Result, Ok, Err}
+use Rattle.std.proofs.Common.{◌≡◌, inl, inr, ℕ, ◌+◌, ◌≤◌, Bool, true, false, List, [], ◌∷◌, length, refl, sym, ap, subst, ◌∙◌, arith, Some, None, nat_lt, Result, Ok, Err}
 use Rattle.std.proofs.lemmas.Bool.Decides.{nat_tests}
 use Rattle.std.specs.Result.{IsErrAnd, IfErr}
-use Rattle.std.specs.Prelude.{map, position, All}
+use Rattle.std.specs.Prelude.{position, All}
 use Rattle.std.specs.List.{AllByRecursion, position_or_len}
 use Rattle.gp_isa.specs.declared.parts.Parts.{Parts}
 use Rattle.gp_isa.specs.declared.parts.Function.{Function}
@@ -16,7 +16,6 @@ use Rattle.gp_text.specs.declared.cause.Cause.{Cause}
 use Rattle.gp_text.specs.declared.cause.Cause.TheVariants as cause
 use Rattle.gp_text.specs.declared.error.TextError.{TextError}
 use Rattle.gp_text.specs.declared.error.TextError.TheVariants.{Refused, Memory}
-use Rattle.gp_text.specs.declared.space.Space.{Space}
 use Rattle.gp_text.specs.declared.said.Said.{Said}
 use Rattle.gp_text.specs.Pieces.{lines_of}
 use Rattle.gp_text.specs.Line.{said_from}
@@ -30,7 +29,8 @@ use Rattle.gp_text.proofs.InLimits.{AllDeep, Named, all_named, sound_of, buildab
 use Rattle.gp_text.proofs.Fitting.{in_limits}
 
 -- the parts that are built
-pub parts_are : (fs : List Function) (cs : List ChannelDecl) (ms : List MutexDecl) (ls : List LabelSet) (known : Known) (said : List Said) → fs ≡ functions_at known 1 said → cs ≡ each_at channel_of 1 said → ms ≡ each_at mutex_of 1 said → ls ≡ each_at label_set_of 1 said →
+pub parts_are : (fs : List Function) (cs : List ChannelDecl) (ms : List MutexDecl) (ls : List LabelSet) (known : Known) (said : List Said) → fs ≡ functions_at known 1 said → cs ≡ each_at channel_of 1 said →
+    ms ≡ each_at mutex_of 1 said → ls ≡ each_at label_set_of 1 said →
     known ≡ known_of said
     → record { functions = fs; channels = cs; mutexes = ms; labels = ls } ≡ parts_of said
 parts_are fs cs ms ls known said f c m l k =
@@ -56,11 +56,11 @@ second_refuses : (said : List Said) (at : ℕ) → first_fault [] said ≡ None 
 unfolding judged
 second_refuses said at first h = rw (first, judged, h) refl
 
-third_judges : (said : List Said) → first_fault [] said ≡ None → position (is_unknown (known_of said)) said ≡ None → judged said ≡ checked (parts_of said)
+pub third_judges : (said : List Said) → first_fault [] said ≡ None → position (is_unknown (known_of said)) said ≡ None → judged said ≡ checked (parts_of said)
 unfolding judged
 third_judges said first h = rw (first, judged, h) refl
 
-judged_of : (bytes : List ℕ) (said : List Said) → said ≡ said_from 0 (lines_of bytes) → program_of bytes ≡ judged said
+pub judged_of : (bytes : List ℕ) (said : List Said) → said ≡ said_from 0 (lines_of bytes) → program_of bytes ≡ judged said
 unfolding program_of
 judged_of bytes said is = ap judged (sym is)
 
@@ -94,7 +94,7 @@ none_before p (x ∷ xs) h = elim (told (p x)) [
   | inr f ↦ let e : length (x ∷ xs) ≤ 1 + position_or_len p xs = rw f at h in (f, none_before p xs (omega arith))
 ]
 
-none_passes : {X : Type 0} (p : X → Bool) (xs : List X) → position p xs ≡ None → AllByRecursion (λ x. p x ≡ false) xs
+pub none_passes : {X : Type 0} (p : X → Bool) (xs : List X) → position p xs ≡ None → AllByRecursion (λ x. p x ≡ false) xs
 none_passes p xs h = elim (told (nat_lt (position_or_len p xs) (length xs))) [
   | inl t ↦ let e : Some (position_or_len p xs) ≡ None = rw t at h in absurd cc
   | inr f ↦ none_before p xs (grind (arith, nat_tests))

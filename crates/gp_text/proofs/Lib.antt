@@ -1,10 +1,16 @@
 pub mod Told
 pub mod Cuts
-pub mod Texts
 pub mod WordCuts
+pub mod Texts
 pub mod Known
 pub mod Steps
 pub mod Behind
 pub mod InLimits
 pub mod Fitting
 pub mod Judging
+pub mod Puts
+pub mod Spelled
+pub mod Forms
+pub mod Placing
+pub mod Again
+pub mod Normal

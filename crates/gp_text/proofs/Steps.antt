@@ -6,7 +6,7 @@ use Rattle.gp_isa.specs.declared.statement.Stmt.{Stmt}
 use Rattle.gp_isa.specs.declared.statement.What.TheVariants as what
 use Rattle.gp_text.specs.declared.build.Block.{Block as Taken}
 use Rattle.gp_text.specs.declared.said.Said.{Said}
-use Rattle.gp_text.specs.declared.said.Said.TheVariants.{NotUtf8, Nonsense, Silent, Declares, Loop, Work, Use, Close}
+use Rattle.gp_text.specs.declared.said.Said.TheVariants.{Loop, Close}
 use Rattle.gp_text.specs.Fault.{Known}
 use Rattle.gp_text.specs.Reading.{statement, statement_of, is_close, Block, first, others, in_front, each_in_front, line_in_front, blocks_at, function_of, functions_at, each_at}
 use Rattle.gp_text.specs.Ended.{IsBlock, turns_in}
@@ -131,7 +131,8 @@ pub functions_over : (known : Known) (said : List Said) (at : ℕ) → length sa
 unfolding functions_at
 functions_over known said at over = ap (functions_at known (at + 1)) (drop_all at said over)
 
-pub each_step : {X : Type 0} (of : ℕ → Said → Option X) (said : List Said) (at : ℕ) (s : Said) → at < length said → s ≡ get_or said at s → each_at of (at + 1) (drop at said) ≡ option_to_list (of (at + 1) s) ++ each_at of (at + 1 + 1) (drop (at + 1) said)
+pub each_step : {X : Type 0} (of : ℕ → Said → Option X) (said : List Said) (at : ℕ) (s : Said) → at < length said → s ≡ get_or said at s →
+    each_at of (at + 1) (drop at said) ≡ option_to_list (of (at + 1) s) ++ each_at of (at + 1 + 1) (drop (at + 1) said)
 unfolding each_at
 each_step of said at s within is = ap (each_at of (at + 1)) (opened said at s within is)
 

@@ -1,5 +1,5 @@
 -- What a line may say where parts are built from lines.
-use Rattle.std.specs.Prelude.{◌≡◌, ◌<◌, ◌≤◌, ◌^◌, true, List, length, All}
+use Rattle.std.specs.Prelude.{◌≡◌, ◌<◌, ◌≤◌, ◌^◌, true, length, All}
 use Rattle.std.specs.Str.{IsUtf8}
 use Rattle.gp_text.specs.declared.space.Space.{Space}
 use Rattle.gp_text.specs.Fault.{Known, most_names}

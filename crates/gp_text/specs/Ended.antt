@@ -2,7 +2,7 @@
 use Rattle.std.specs.Prelude.{◌≡◌, ◌≤◌, ◌+◌, ℕ, List, length, drop, Option, Some, None}
 use Rattle.gp_text.specs.declared.build.Block.{Block as Taken}
 use Rattle.gp_text.specs.declared.said.Said.{Said}
-use Rattle.gp_text.specs.declared.said.Said.TheVariants.{Loop, Close}
+use Rattle.gp_text.specs.declared.said.Said.TheVariants.{Loop}
 use Rattle.gp_text.specs.Fault.{Known}
 use Rattle.gp_text.specs.Reading.{blocks_at, first, others}
 

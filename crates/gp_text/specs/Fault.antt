@@ -3,7 +3,6 @@
 use Rattle.std.specs.Prelude.{ℕ, ◌+◌, Bool, true, false, not, ◌||◌, ◌&&◌, if◌then◌else◌, nat_le, nat_lt, List, [], ◌∷◌, ◌++◌, length, Option, Some, None, position, fold}
 use Rattle.std.specs.List.{flat_map, list_any, list_all}
 use Rattle.std.specs.Str.{bytes_eq}
-use Rattle.gp_isa.specs.declared.parts.Pair.{Pair}
 use Rattle.gp_isa.specs.Limits.{name_bytes, most_functions, most_channels, most_mutexes, most_label_sets, most_pairs, most_capacity, most_count, most_loops}
 use Rattle.gp_text.specs.declared.cause.Cause.{Cause}
 use Rattle.gp_text.specs.declared.cause.Cause.TheVariants.{BadLine, UnknownName, Twice, OutOfRange, NotClosed, NotUtf8 as NoText}

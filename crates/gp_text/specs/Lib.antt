@@ -8,3 +8,5 @@ pub mod Spaces
 pub mod Refused
 pub mod CanBuild
 pub mod Ended
+pub mod Text
+pub mod Page

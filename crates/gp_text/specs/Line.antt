@@ -9,7 +9,6 @@ use Rattle.gp_isa.specs.Limits.{name_bytes, number_digits}
 use Rattle.gp_text.specs.Pieces.{words_of}
 use Rattle.gp_text.specs.declared.verb.Verb.{Verb}
 use Rattle.gp_text.specs.declared.verb.Verb.TheVariants.{Call, Spawn, Send, Recv, Lock, Unlock, Labels}
-use Rattle.gp_text.specs.declared.said.Declared.{Declared}
 use Rattle.gp_text.specs.declared.said.Declared.TheVariants.{Function, Channel, Mutex, LabelSet}
 use Rattle.gp_text.specs.declared.said.Said.{Said}
 use Rattle.gp_text.specs.declared.said.Said.TheVariants.{NotUtf8, Nonsense, Silent, Declares, Loop, Work, Use, Close}

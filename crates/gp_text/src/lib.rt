@@ -24,8 +24,12 @@
 //! Blocks nest, and the builder goes into a loop by calling itself, at most nine deep. Their definition goes the other way:
 //! from the last line back, each line is put in front of the blocks that the lines behind it end.
 //!
+//! [`print`] puts each part of a program on its line of a page (`page`), and so finds back the lines of the file that it was
+//! read from, without comments, blanks and zeros that lead.
+//!
 //! `specs/Line.antt` has what a line says, `specs/Fault.antt` the faults of the first two passes as functions of what
-//! the lines before a line said, `specs/Reading.antt` the parts and `program_of`, which [`read`] gives exactly.
+//! the lines before a line said, `specs/Reading.antt` the parts and `program_of`, which [`read`] gives exactly, and
+//! `specs/Text.antt` the text of a program.
 //! Names are looked up in sets of borrowed bytes with hashes, so the time of reading grows with the length of the file.
 #![tactic(auto)]
 
@@ -37,6 +41,8 @@ mod faults;
 mod lines;
 mod marks;
 mod names;
+mod page;
+mod printing;
 mod reading;
 mod said;
 mod space;
@@ -47,4 +53,5 @@ mod words;
 
 pub use cause::Cause;
 pub use error::TextError;
+pub use printing::print;
 pub use reading::read;

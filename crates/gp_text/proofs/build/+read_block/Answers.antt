@@ -23,7 +23,8 @@ loop-at-preserved t c =
           reads_statement (kept c.args.spaces.now) c.args.said.now c.args.from c.loop-at.at c.loop-at.body _ c.index-said-at.result _ c.statement.result c.loop-at.invariant c.loop-at-test.true c.index-said-at.is open_ none c.statement.ensures
           w.in-Some-statement.is (w.body-is ∙ w.in_ok-push-in-None.ensures.ok)
       | in_default w ↦
-          reads_silent (kept c.args.spaces.now) c.args.said.now c.args.from c.loop-at.at c.loop-at.body _ c.index-said-at.result c.statement.result c.loop-at.invariant c.loop-at-test.true c.index-said-at.is open_ none c.statement.ensures w.in_default.is
+          reads_silent (kept c.args.spaces.now) c.args.said.now c.args.from c.loop-at.at c.loop-at.body _ c.index-said-at.result c.statement.result c.loop-at.invariant c.loop-at-test.true
+          c.index-said-at.is open_ none c.statement.ensures w.in_default.is
           w.body-is
     ]
 
