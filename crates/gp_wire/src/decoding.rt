@@ -1,4 +1,4 @@
-ghost use Rattle.std.specs.Prelude.{◌≡◌, ◌≤◌, length, IfOk, IfErr};
+ghost use Rattle.std.specs.Prelude.{◌≡◌, ◌≤◌, None, length, IfOk, IfErr};
 ghost use Rattle.gp_wire.specs.Checks.{profile_check};
 ghost use Rattle.gp_wire.specs.Fields.{first_fault};
 ghost use Rattle.gp_wire.specs.Reading.{Gives, HaltsBy, IsRefusalOf, judged, value_of};
@@ -50,6 +50,7 @@ fn profile(alloc: Global, bytes: &[u8]) -> Result<Profile, WireError>
 /// the ids of its locations and functions while they are looked for; `WireError::Memory` where it is refused.
 pub fn decode(alloc: Global, bytes: &[u8]) -> Result<Profile, WireError>
     ensures ok { IfOk result (λ profile. value_of bytes.now ≡ Gives profile) }
+    ensures valid { IfOk result (λ profile. cause_of profile ≡ None) }
     ensures refused { IfErr result (IsRefusalOf (value_of bytes.now)) }
 {
     let profile = profile(alloc, bytes)?;

@@ -13,8 +13,26 @@
 //! field aren't written. A text of the string table is written even where it is empty, and so is a message
 //! without content. Every profile has canonical bytes, also one whose ids and places lead nowhere.
 //!
-//! The definition has two steps, which stand apart: the list of fields of each message (`specs/Canonical`), and
-//! the spelling of a list of fields (`specs/Field`, `specs/Varint`).
+//! The definition of the bytes has two steps, which stand apart: the list of fields of each message
+//! (`specs/Canonical`), and the spelling of a list of fields (`specs/Field`, `specs/Varint`).
+//!
+//! `decode` reads any bytes, whoever wrote them, field by field and once. Here a sample names location 1 by a number that
+//! stands alone, has an unknown field 9 and a value in a part, and a later field cuts its part:
+//!
+//! ```text
+//! 12 07 | 08 01 | 48 05 | 12 01 07      sample: location_id 1, field 9, value [7]
+//! 32 00                                 string_table: the empty text
+//! 12 03 | 12 02 80                      sample: the part of its values ends behind the 3 bytes of the sample
+//!                                       refused at 11, where this field's key begins, cause 1
+//! ```
+//!
+//! What bytes mean is defined in layers as well, from the front: a number and a field (`specs/Front`), packed numbers
+//! (`specs/Packed`), the list of a message's fields and its first fault (`specs/Fields`, the faults inside a field in
+//! `specs/Checks`), what fields give as filters over that list (`specs/Messages`), and the faults of a profile as a whole
+//! (`specs/Valid`). `value_of` (`specs/Reading`) is the profile or the refusal, and `decode` answers just that. The code has
+//! one loop for all messages (`merge`), which keeps what the fields so far give, and a table for each message (`layout`).
+//!
+//! `law_round_trip` says that what is written is read again, over these definitions alone (`specs/RoundTrip`).
 #![tactic(auto)]
 
 mod cause;
