@@ -24,6 +24,8 @@ table =
     record { word = codes "--workers"; setting = Workers; in_run = true }
     ∷ record { word = codes "--at"; setting = At; in_run = true }
     ∷ record { word = codes "--room"; setting = Room; in_run = true }
+    ∷ record { word = codes "--block"; setting = Block; in_run = true }
+    ∷ record { word = codes "--mutex"; setting = Mutex; in_run = true }
     ∷ record { word = codes "--seed"; setting = Seed; in_run = true }
     ∷ record { word = codes "--cells"; setting = Cells; in_run = true }
     ∷ record { word = codes "--entries"; setting = Entries; in_run = true }

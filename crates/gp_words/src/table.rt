@@ -17,7 +17,7 @@ struct Row {
 }
 
 // The options that can be given. What has no row has its usual value.
-const TABLE: [Row; 7] = [
+const TABLE: [Row; 9] = [
     Row {
         word: "--workers",
         setting: Setting::Workers,
@@ -31,6 +31,16 @@ const TABLE: [Row; 7] = [
     Row {
         word: "--room",
         setting: Setting::Room,
+        in_run: true,
+    },
+    Row {
+        word: "--block",
+        setting: Setting::Block,
+        in_run: true,
+    },
+    Row {
+        word: "--mutex",
+        setting: Setting::Mutex,
         in_run: true,
     },
     Row {
