@@ -13,12 +13,35 @@
 //!
 //! Each line ends with a line feed. Numbers are decimal, as the standard library writes them. The definition of the lines is
 //! `specs/Fault.antt`, with the causes' numbers as they come.
+//!
+//! [`dump`] makes the text of what a profile means (`gp_build`'s `Meaning`):
+//!
+//! ```text
+//! type samples count
+//! type cpu nanoseconds
+//! period cpu nanoseconds 10000000
+//! duration 20000000
+//! sample 1 10000000 | main@a.gp:2 | team=red bytes=#512:kb
+//! ```
+//!
+//! There is a line for each sample type, one for the period and one for the duration, and one for each sample: its values, its
+//! frames from the leaf on, and its labels, with a blank before each of them and before each bar. A frame is a name, a file
+//! and a line; a label is a key with a text, or with a number and, where it isn't empty, its unit. A type or a unit that is
+//! empty stands as `-`, and so do both where there is no period type.
+//!
+//! So that each line is read in one way, bytes of names, files, types, units, keys and values that would be taken for marks or
+//! that can't be seen are escaped (`escape`): those up to 0x20, 0x7f, and each of `\ # = : | @` stand as `\x` and two hexadecimal
+//! digits in lower case. What makes up a line is in `pieces`, and the lines in `meaning`; the definition is `specs/Dump.antt`.
 #![tactic(auto)]
 
+mod escape;
 mod line;
+mod meaning;
+mod pieces;
 mod refusal;
 mod report;
 
 pub use line::fault;
+pub use meaning::dump;
 pub use refusal::Fault;
 pub use report::Report;
