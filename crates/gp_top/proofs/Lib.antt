@@ -4,3 +4,4 @@ pub mod Saving
 pub mod Heading
 pub mod Asking
 pub mod Refusing
+pub mod Given

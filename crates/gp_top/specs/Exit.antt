@@ -3,7 +3,7 @@ use Rattle.std.specs.Prelude.{ℕ}
 use Rattle.gp_report.specs.declared.refusal.Fault.{Fault}
 use Rattle.gp_report.specs.declared.refusal.Fault.TheVariants.{Usage, Line, At, Long, Read}
 
--- The run ended by `main`, no profile was refused, and all files were put.
+-- The run ended by `main`, no profile was refused, and all files were put; or the text of a profile was written.
 abbrev pub exit_done : ℕ
 exit_done = 0
 
@@ -11,7 +11,7 @@ exit_done = 0
 abbrev pub exit_usage : ℕ
 exit_usage = 1
 
--- The bytes are no program, or too many.
+-- The bytes are no program, or no profile for `dump`, or too many.
 abbrev pub exit_refused : ℕ
 exit_refused = 2
 
@@ -19,7 +19,7 @@ exit_refused = 2
 abbrev pub exit_read_fault : ℕ
 exit_read_fault = 3
 
--- The store failed.
+-- The store or the sink failed.
 abbrev pub exit_put_fault : ℕ
 exit_put_fault = 4
 

@@ -1,9 +1,9 @@
-//! The top call: command words and a program file in, goroutine profiles out.
+//! The top call: command words and a program file in, profiles out.
 //!
 //! [`plain_top`] goes one way. The words name a file and options (`gp_words`). The source is read to its end, and its
 //! bytes give a program (`gp_text`) or are refused (`load`). The program is run in the order that the options' numbers
-//! choose (`gp_sim`), and what the run tells is its report (`report`). Each goroutine profile that was opened (`gp_build`)
-//! becomes bytes (`gp_wire`) and is put into the store (`save`). How all that went is the exit status (`finish`). What stops
+//! choose (`gp_sim`), and what the run tells is its report (`report`). Each goroutine profile that was opened, and then the block
+//! profile and the mutex profile (`gp_build`), becomes bytes (`gp_wire`) and is put into the store (`save`). How all that went is the exit status (`finish`). What stops
 //! this before the run (`stop`) ends it, and where that isn't want of memory its line is written to the sink (`gp_report`):
 //!
 //! ```text
@@ -18,6 +18,7 @@
 //! `Status` which status a run comes to, and `Files` which files it puts.
 #![tactic(auto)]
 
+mod dumping;
 mod finish;
 mod load;
 mod report;

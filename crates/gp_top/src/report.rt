@@ -5,15 +5,27 @@ ghost use Rattle.gp_machine.specs.State.{code_of};
 ghost use Rattle.gp_machine.specs.Run.{state_of, IsFinished};
 ghost use Rattle.gp_sim.specs.Choice.{sim_journal};
 ghost use Rattle.gp_journal.specs.Profiles.{records_of};
+ghost use Rattle.gp_events.specs.Sums.{sums};
+ghost use Rattle.gp_history.specs.Events.{block_events, mutex_events};
 ghost use Rattle.gp_top.specs.Report as definition;
 ghost use Rattle.gp_top.specs.Report.{AreMade, IsReport};
 
+use gp_events::Buckets;
 use gp_isa::{Memory, Program, Sequence};
 use gp_machine::{Counts, Entry, Machine, Refusals, Run, Settings};
 use gp_report::Report;
 use gp_sim::{Simulated, simulate};
+use gp_stack::Profiles;
 use std::alloc::Global;
 use std::marker::Brand;
+
+/// A run that is complete: its report, and the sums of its block and of its mutex events.
+#[derive(Drop)]
+pub(crate) struct Ran {
+    pub report: Report,
+    pub block: Buckets,
+    pub mutex: Buckets,
+}
 
 // The room and the number of live goroutines of each Refuse entry.
 fn refusals(alloc: Global, journal: &[Entry]) -> Result<Refusals, Memory>
@@ -68,20 +80,17 @@ fn entries_made<R: Run>(
 fn report_on<R: Run>(
     alloc: Global,
     settings: &Settings,
-    simulated: Simulated<R>,
+    machine: Machine<R>,
+    records: Profiles,
 ) -> Result<Report, Memory>
     requires settings { settings.now ≡ R.settings }
     requires range { AreInRange settings.now }
-    requires finished { IsFinished (code_of R.program) R.settings simulated.machine }
-    requires chosen { simulated.machine ≡ sim_journal (code_of R.program) R.settings }
-    requires records { simulated.records ≡ records_of (code_of R.program) R.settings simulated.machine }
-    ensures { IfOk result (IsReport R.program R.settings) }
+    requires finished { IsFinished (code_of R.program) R.settings machine }
+    requires chosen { machine ≡ sim_journal (code_of R.program) R.settings }
+    requires records { records ≡ records_of (code_of R.program) R.settings machine }
+    ensures report { IfOk result (IsReport R.program R.settings) }
+    ensures journal { IfOk result (λ report. report.journal ≡ machine) }
 {
-    let Simulated {
-        machine,
-        records,
-        ..
-    } = simulated;
     let refused = refusals(alloc, machine.journal())?;
     let done = instructions(alloc, settings, &machine)?;
     let made = entries_made(alloc, settings, &machine)?;
@@ -100,24 +109,35 @@ fn report_on<R: Run>(
     })
 }
 
-fn run_named<R: Run>(
-    alloc: Global,
-    program: &Program,
-    settings: &Settings,
-) -> Result<Report, Memory>
+fn run_named<R: Run>(alloc: Global, program: &Program, settings: &Settings) -> Result<Ran, Memory>
     requires program { program.now ≡ R.program }
     requires settings { settings.now ≡ R.settings }
     requires range { AreInRange settings.now }
-    ensures { IfOk result (IsReport R.program R.settings) }
+    ensures report { IfOk result (λ ran. IsReport R.program R.settings ran.report) }
+    ensures block { IfOk result (λ ran. ran.block ≡ sums (block_events (code_of R.program) R.settings ran.report.journal)) }
+    ensures mutex { IfOk result (λ ran. ran.mutex ≡ sums (mutex_events (code_of R.program) R.settings ran.report.journal)) }
 {
-    let simulated = simulate::<R>(alloc, program, settings)?;
-    report_on(alloc, settings, simulated)
+    let Simulated {
+        machine,
+        records,
+        block,
+        mutex,
+        ..
+    } = simulate::<R>(alloc, program, settings)?;
+    let report = report_on(alloc, settings, machine, records)?;
+    Ok(Ran {
+        report,
+        block,
+        mutex,
+    })
 }
 
 /// Runs a program in the order that its options' numbers choose, to the end, and reports on it.
-pub(crate) fn run(alloc: Global, program: &Program, settings: &Settings) -> Result<Report, Memory>
+pub(crate) fn run(alloc: Global, program: &Program, settings: &Settings) -> Result<Ran, Memory>
     requires { AreInRange settings.now }
-    ensures { IfOk result (IsReport program.now settings.now) }
+    ensures report { IfOk result (λ ran. IsReport program.now settings.now ran.report) }
+    ensures block { IfOk result (λ ran. ran.block ≡ sums (block_events (code_of program.now) settings.now ran.report.journal)) }
+    ensures mutex { IfOk result (λ ran. ran.mutex ≡ sums (mutex_events (code_of program.now) settings.now ran.report.journal)) }
 {
     run_named::<Brand>(alloc, program, settings)
 }

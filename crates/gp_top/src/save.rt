@@ -2,14 +2,18 @@ ghost use Rattle.std.specs.Prelude.{◌≡◌, ◌<◌, ◌+◌, ◌^◌, ℕ, O
 ghost use Rattle.gp_io.specs.Outside.{Rose, RoseBy, Puts, KeepsOthers};
 ghost use Rattle.gp_wire.specs.Canonical.{canon};
 ghost use Rattle.gp_build.specs.Profile.{goroutine_profile_of};
+ghost use Rattle.gp_build.specs.Contention.{contention_profile_of};
+ghost use Rattle.gp_events.specs.Order.{sums_in_order};
 ghost use Rattle.gp_top.specs.Files as definition;
-ghost use Rattle.gp_top.specs.Files.{files_of, GainsFirst, FailsAtNext};
+ghost use Rattle.gp_top.specs.Files.{goroutine_files, files_from, GainsFirst, FailsAtNext};
 
-use gp_build::goroutine_profile;
+use crate::report::Ran;
+use gp_build::{contention_profile, goroutine_profile};
+use gp_events::Buckets;
 use gp_io::{Failed, Store};
 use gp_isa::{Memory, Program};
 use gp_stack::{Profiles, Records};
-use gp_wire::write;
+use gp_wire::{Profile, write};
 use std::alloc::Global;
 
 /// Why not all files were put.
@@ -49,6 +53,26 @@ fn profile_name(alloc: Global, epoch: usize) -> Result<String, Memory>
     Ok(format!(in alloc; "goroutine.{epoch}.pb")?)
 }
 
+// Puts a profile under a name.
+fn put_named<K: Store>(
+    alloc: Global,
+    name: &str,
+    profile: &Profile,
+    store: &mut K,
+) -> Result<(), SaveError>
+    ensures put { OnOk result (Puts (K.files store.old) name.now (canon profile.now) (K.files store.new)) }
+    ensures well { OnOk result (K.faults store.new ≡ K.faults store.old) }
+    ensures asked { OnOk result (RoseBy 1 (K.asked store.old) (K.asked store.new)) }
+    ensures fault { IsErrOf result SaveError.PutFault → Rose (K.faults store.old) (K.faults store.new) }
+    ensures others { IsErrOf result SaveError.PutFault → KeepsOthers (K.files store.old) name.now (K.files store.new) }
+    ensures asked_in_vain { IsErrOf result SaveError.PutFault → RoseBy 1 (K.asked store.old) (K.asked store.new) }
+    ensures memory { IsErrOf result SaveError.Memory → store.new ≡ store.old }
+{
+    let bytes = write(alloc, profile)?;
+    store.put(name, bytes.as_slice())?;
+    Ok(())
+}
+
 // Puts the goroutine profile that the records of an epoch make.
 fn put_profile<K: Store>(
     alloc: Global,
@@ -70,24 +94,45 @@ fn put_profile<K: Store>(
 {
     let name = profile_name(alloc, epoch)?;
     let profile = goroutine_profile(alloc, program, file, records)?;
-    let bytes = write(alloc, &profile)?;
-    store.put(name.as_str(), bytes.as_slice())?;
-    Ok(())
+    put_named(alloc, name.as_str(), &profile, store)
 }
 
-/// Puts the goroutine profiles of a run, by epoch. Where a put fails no more is put.
-pub(crate) fn put_profiles<K: Store>(
+// Puts the profile that sums of waits make.
+fn put_waits<K: Store>(
+    alloc: Global,
+    program: &Program,
+    file: &str,
+    name: &str,
+    waits: &Buckets,
+    store: &mut K,
+) -> Result<(), SaveError>
+    ensures put { OnOk result (Puts (K.files store.old) name.now
+        (canon (contention_profile_of program.now file.now (sums_in_order program.now waits.now))) (K.files store.new)) }
+    ensures well { OnOk result (K.faults store.new ≡ K.faults store.old) }
+    ensures asked { OnOk result (RoseBy 1 (K.asked store.old) (K.asked store.new)) }
+    ensures fault { IsErrOf result SaveError.PutFault → Rose (K.faults store.old) (K.faults store.new) }
+    ensures others { IsErrOf result SaveError.PutFault → KeepsOthers (K.files store.old) name.now (K.files store.new) }
+    ensures asked_in_vain { IsErrOf result SaveError.PutFault → RoseBy 1 (K.asked store.old) (K.asked store.new) }
+    ensures memory { IsErrOf result SaveError.Memory → store.new ≡ store.old }
+{
+    let sums = waits.sorted(alloc, program)?;
+    let profile = contention_profile(alloc, program, file, &sums)?;
+    put_named(alloc, name, &profile, store)
+}
+
+// Puts the goroutine profiles of a run, by epoch. Where a put fails no more is put.
+fn put_profiles<K: Store>(
     alloc: Global,
     program: &Program,
     file: &str,
     profiles: &Profiles,
     store: &mut K,
 ) -> Result<(), SaveError>
-    ensures all { OnOk result (let files = files_of program.now file.now profiles.now in
+    ensures all { OnOk result (let files = goroutine_files program.now file.now profiles.now in
         GainsFirst (length files) files (K.files store.old, K.asked store.old) (K.files store.new, K.asked store.new)) }
-    ensures fails { IsErrOf result SaveError.PutFault → (n : ℕ) × FailsAtNext n (files_of program.now file.now profiles.now)
+    ensures fails { IsErrOf result SaveError.PutFault → (n : ℕ) × FailsAtNext n (goroutine_files program.now file.now profiles.now)
         (K.files store.old, K.asked store.old) (K.files store.new, K.asked store.new) }
-    ensures memory { IsErrOf result SaveError.Memory → (n : ℕ) × GainsFirst n (files_of program.now file.now profiles.now)
+    ensures memory { IsErrOf result SaveError.Memory → (n : ℕ) × GainsFirst n (goroutine_files program.now file.now profiles.now)
         (K.files store.old, K.asked store.old) (K.files store.new, K.asked store.new) }
 
     ensures fault { IsErrOf result SaveError.PutFault → Rose (K.faults store.old) (K.faults store.new) }
@@ -97,4 +142,30 @@ pub(crate) fn put_profiles<K: Store>(
         put_profile(alloc, program, file, at + 1, records, store)?;
     }
     Ok(())
+}
+
+/// Puts the files of a run: the goroutine profiles, by epoch, then `block.pb` and `mutex.pb`. Where a put fails no more is
+/// put.
+pub(crate) fn put_files<K: Store>(
+    alloc: Global,
+    program: &Program,
+    file: &str,
+    ran: &Ran,
+    store: &mut K,
+) -> Result<(), SaveError>
+    ensures all { OnOk result (let files = files_from program.now file.now ran.now.report.goroutine_records ran.now.block ran.now.mutex in
+        GainsFirst (length files) files (K.files store.old, K.asked store.old) (K.files store.new, K.asked store.new)) }
+    ensures fails { IsErrOf result SaveError.PutFault → (n : ℕ)
+        × FailsAtNext n (files_from program.now file.now ran.now.report.goroutine_records ran.now.block ran.now.mutex)
+        (K.files store.old, K.asked store.old) (K.files store.new, K.asked store.new) }
+    ensures memory { IsErrOf result SaveError.Memory → (n : ℕ)
+        × GainsFirst n (files_from program.now file.now ran.now.report.goroutine_records ran.now.block ran.now.mutex)
+        (K.files store.old, K.asked store.old) (K.files store.new, K.asked store.new) }
+
+    ensures fault { IsErrOf result SaveError.PutFault → Rose (K.faults store.old) (K.faults store.new) }
+    ensures well { (IsErrOf result SaveError.PutFault → ⊥) → K.faults store.new ≡ K.faults store.old }
+{
+    put_profiles(alloc, program, file, &ran.report.goroutine_records, store)?;
+    put_waits(alloc, program, file, "block.pb", &ran.block, store)?;
+    put_waits(alloc, program, file, "mutex.pb", &ran.mutex, store)
 }

@@ -1,16 +1,16 @@
-/// The run ended by `main`, no profile was refused, and all files were put.
+/// The run ended by `main`, no profile was refused, and all files were put; or the text of a profile was written.
 pub const DONE: u8 = 0;
 
 /// The words give no job.
 pub const USAGE: u8 = 1;
 
-/// The bytes are no program, or too many.
+/// The bytes are no program, or no profile for `dump`, or too many.
 pub const REFUSED: u8 = 2;
 
 /// The source failed.
 pub const READ_FAULT: u8 = 3;
 
-/// The store failed.
+/// The store or the sink failed.
 pub const PUT_FAULT: u8 = 4;
 
 /// The run ended by a fault: an unlock of a free mutex, or no cell left for a goroutine to be born.

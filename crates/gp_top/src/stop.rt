@@ -6,9 +6,10 @@ use gp_io::ReadError;
 use gp_isa::Memory;
 use gp_report::Fault;
 use gp_text::TextError;
+use gp_wire::WireError;
 use gp_words::WordError;
 
-/// Why no run was made.
+/// Why no job was done.
 #[derive(Clone, Copy)]
 pub(crate) enum Stop {
     /// The words, the bytes or the source are at fault, which a line tells.
@@ -69,6 +70,23 @@ impl From<TextError> for Stop {
                 Stop::Fault(Fault::Line { line, cause })
             }
             TextError::Memory => Stop::Memory,
+        }
+    }
+}
+
+impl From<WireError> for Stop {
+    ghost use Rattle.std.specs.Prelude.{◌≡◌};
+    ghost use Rattle.gp_top.specs.kept.Steps.{stop_of_profile};
+
+    ghost from_gives = { λ error made. made ≡ stop_of_profile error };
+
+    fn from(error: WireError) -> Stop {
+        match error {
+            WireError::Refused { at, cause } => {
+                let cause = cause.number();
+                Stop::Fault(Fault::At { at, cause })
+            }
+            WireError::Memory => Stop::Memory,
         }
     }
 }

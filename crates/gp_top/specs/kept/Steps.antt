@@ -9,15 +9,23 @@ use Rattle.gp_text.specs.Number.{number_of}
 use Rattle.gp_text.specs.declared.cause.Cause.{Cause}
 use Rattle.gp_text.specs.declared.error.TextError.{TextError}
 use Rattle.gp_text.specs.declared.error.TextError.TheVariants as text
-use Rattle.gp_words.specs.Read.{Faults}
+use Rattle.gp_wire.specs.Cause as wire
+use Rattle.gp_wire.specs.declared.cause.Cause.{Cause as WireCause}
+use Rattle.gp_wire.specs.declared.error.WireError.{WireError}
+use Rattle.gp_wire.specs.declared.error.WireError.TheVariants as profile
+use Rattle.gp_journal.specs.declared.settings.Settings.{Settings}
+use Rattle.gp_words.specs.Read.{Names, Faults}
+use Rattle.gp_words.specs.declared.jobs.Job.{Job}
+use Rattle.gp_words.specs.declared.jobs.Job.TheVariants.{Sim, Dump}
 use Rattle.gp_words.specs.declared.error.WordError.{WordError}
 use Rattle.gp_words.specs.declared.error.WordError.TheVariants as words
 use Rattle.gp_top.specs.declared.stop.Stop.{Stop}
 use Rattle.gp_top.specs.declared.stop.Stop.TheVariants as stop
 use Rattle.gp_top.specs.Exit.{exit_usage, exit_refused, exit_read_fault}
-use Rattle.gp_top.specs.Top.{asked_of, HaveJob, IsTooLong, IsFaulty, IsReadWhole}
+use Rattle.gp_isa.specs.Limits.{file_bytes}
+use Rattle.gp_top.specs.Top.{asked_of, profile_bytes, limit_of, HaveJob, IsTooLong, IsFaulty, IsFaultyProfile, IsReadTo}
 
--- what stops a run by each cause of words, of a failed read and of a refused text
+-- what stops a job by each cause of words, of a failed read, of a refused text and of a refused profile
 abbrev pub stop_of_words : WordError → Stop
 stop_of_words (words.Usage place cause) = stop.Fault (Usage place cause)
 stop_of_words words.Memory = stop.Memory
@@ -31,7 +39,11 @@ abbrev pub stop_of_text : TextError → Stop
 stop_of_text (text.Refused line cause) = stop.Fault (Line line (number_of cause))
 stop_of_text text.Memory = stop.Memory
 
--- What stops a run at its words.
+abbrev pub stop_of_profile : WireError → Stop
+stop_of_profile (profile.Refused at cause) = stop.Fault (At at (wire.number_of cause))
+stop_of_profile profile.Memory = stop.Memory
+
+-- What stops a job at its words.
 abbrev pub WordsStop : List (List ℕ) → Stop → Type 0
 WordsStop words (stop.Fault (Usage place cause)) = asked_of words ≡ Faults place cause
 WordsStop words (stop.Fault (Line line number)) = ⊥
@@ -40,34 +52,63 @@ WordsStop words (stop.Fault Long) = ⊥
 WordsStop words (stop.Fault Read) = ⊥
 WordsStop words stop.Memory = Unit {0}
 
--- What the fault of a load tells of the source, before and after.
+-- The source was read to its end, or to one byte past a limit, and no read failed.
+abbrev pub IsReadWell : {S : Type 0} → (S → Option (List ℕ)) → (S → ℕ) → ℕ → S → S → Type 0
+IsReadWell left faults limit old new = IsReadTo limit (left old) (left new) × (faults new ≡ faults old)
+
+-- What a fault tells of the source, before and after, where a program was to be read.
 abbrev pub SourceTells : {S : Type 0} → (S → Option (List ℕ)) → (S → ℕ) → S → S → Fault → Type 0
 SourceTells left faults old new (Usage place cause) = ⊥
 SourceTells left faults old new (Line line number) =
-    ((cause : Cause) × (number ≡ number_of cause) × IsFaulty (left old) line cause)
-    × (IsReadWhole (left old) (left new) × (faults new ≡ faults old))
-SourceTells left faults old new (At at cause) = ⊥
-SourceTells left faults old new Long = IsTooLong (left old) × (IsReadWhole (left old) (left new) × (faults new ≡ faults old))
+    ((cause : Cause) × (number ≡ number_of cause) × IsFaulty (left old) line cause) × IsReadWell left faults file_bytes old new
+SourceTells left faults old new (At at number) = ⊥
+SourceTells left faults old new Long = IsTooLong file_bytes (left old) × IsReadWell left faults file_bytes old new
 SourceTells left faults old new Read = Rose (faults old) (faults new)
 
--- And what stops it.
+-- The same where a profile was to be read.
+abbrev pub ProfileTells : {S : Type 0} → (S → Option (List ℕ)) → (S → ℕ) → S → S → Fault → Type 0
+ProfileTells left faults old new (Usage place cause) = ⊥
+ProfileTells left faults old new (Line line number) = ⊥
+ProfileTells left faults old new (At at number) =
+    ((cause : WireCause) × (number ≡ wire.number_of cause) × IsFaultyProfile (left old) at cause)
+    × IsReadWell left faults profile_bytes old new
+ProfileTells left faults old new Long = IsTooLong profile_bytes (left old) × IsReadWell left faults profile_bytes old new
+ProfileTells left faults old new Read = Rose (faults old) (faults new)
+
+-- And what stops the reading of either.
 abbrev pub LoadStops : {S : Type 0} → (S → Option (List ℕ)) → (S → ℕ) → S → S → Stop → Type 0
 LoadStops left faults old new (stop.Fault what) = SourceTells left faults old new what
 LoadStops left faults old new stop.Memory = Unit {0}
 
+abbrev pub ProfileStops : {S : Type 0} → (S → Option (List ℕ)) → (S → ℕ) → S → S → Stop → Type 0
+ProfileStops left faults old new (stop.Fault what) = ProfileTells left faults old new what
+ProfileStops left faults old new stop.Memory = Unit {0}
+
+-- The words ask for a simulated run, or for the text of a profile.
+abbrev pub AskForRun : List (List ℕ) → Type 0
+AskForRun words = (file : List ℕ) × (settings : Settings) × (asked_of words ≡ Names (Sim file settings))
+
+abbrev pub AskForText : List (List ℕ) → Type 0
+AskForText words = (file : List ℕ) × (asked_of words ≡ Names (Dump file))
+
+-- The source held more bytes than what the words ask for may have.
+abbrev pub TellsLong : {S : Type 0} → (S → Option (List ℕ)) → (S → ℕ) → List (List ℕ) → S → S → Type 0
+TellsLong left faults words old new =
+    (job : Job) × (asked_of words ≡ Names job) × IsTooLong (limit_of job) (left old) × IsReadWell left faults (limit_of job) old new
+
 -- What a fault tells of the words, and of the source before and after.
 abbrev pub FaultTells : {S : Type 0} → (S → Option (List ℕ)) → (S → ℕ) → List (List ℕ) → S → S → Fault → Type 0
 FaultTells left faults words old new (Usage place cause) = (asked_of words ≡ Faults place cause) × (new ≡ old)
-FaultTells left faults words old new (Line line number) = HaveJob words × SourceTells left faults old new (Line line number)
-FaultTells left faults words old new (At at cause) = ⊥
-FaultTells left faults words old new Long = HaveJob words × SourceTells left faults old new Long
-FaultTells left faults words old new Read = HaveJob words × SourceTells left faults old new Read
+FaultTells left faults words old new (Line line number) = AskForRun words × SourceTells left faults old new (Line line number)
+FaultTells left faults words old new (At at number) = AskForText words × ProfileTells left faults old new (At at number)
+FaultTells left faults words old new Long = TellsLong left faults words old new
+FaultTells left faults words old new Read = HaveJob words × Rose (faults old) (faults new)
 
--- And what stops a run.
+-- And what stops a job.
 abbrev pub RunStops : {S : Type 0} → (S → Option (List ℕ)) → (S → ℕ) → List (List ℕ) → S → S → Stop → Type 0
 RunStops left faults words old new (stop.Fault what) = FaultTells left faults words old new what
 RunStops left faults words old new stop.Memory = Unit {0}
 
--- A status behind a run: none of those to which no run comes.
+-- A status behind a run or a text: none of those of a refusal.
 abbrev pub IsAfterRun : ℕ → Type 0
 IsAfterRun status = (status ≢ exit_usage) × ((status ≢ exit_refused) × (status ≢ exit_read_fault))

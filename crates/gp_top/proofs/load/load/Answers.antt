@@ -20,12 +20,12 @@ returns-in_err-read-clause-stopped g c =
     let bytes = c.in_ok-bytes.bytes in
     let said = c.in_ok-bytes.ensures in
     carried c.from_residual-in_err-read.result (stop_of_text e) (LoadStops left faults c.args.source.now c.read_all.new.source) c.from_residual-in_err-read.ensures.1
-    (stopped_text left faults c.args.source.now c.read_all.new.source e bytes said.all said.within (whole_read _ _ bytes said.all said.within said.nothing_left) said.ok_without_fault
+    (stopped_text left faults c.args.source.now c.read_all.new.source e bytes said.all said.within (whole_read 1048576 _ _ bytes said.all said.within said.nothing_left) said.ok_without_fault
     (rw (sym c.as_slice.ensures) c.in_err-read.ensures.refused))
 
 pub returns-clause-whole : goal.returns-clause-whole
 returns-clause-whole g c =
-    whole_read (g.S.Source.left c.args.source.now) (g.S.Source.left c.read_all.new.source) c.in_ok-bytes.bytes c.in_ok-bytes.ensures.all c.in_ok-bytes.ensures.within c.in_ok-bytes.ensures.nothing_left
+    whole_read 1048576 (g.S.Source.left c.args.source.now) (g.S.Source.left c.read_all.new.source) c.in_ok-bytes.bytes c.in_ok-bytes.ensures.all c.in_ok-bytes.ensures.within c.in_ok-bytes.ensures.nothing_left
 
 pub returns-clause-accepted : goal.returns-clause-accepted
 returns-clause-accepted g c = record {

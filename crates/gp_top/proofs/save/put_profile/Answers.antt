@@ -6,5 +6,4 @@ use Rattle.gp_top.proofs.save.put_profile.Goals as goal
 pub returns-clause-put : goal.returns-clause-put
 returns-clause-put g c =
     let name : c.as_str.result.now ≡ profile_name c.args.epoch = c.as_str.ensures.value ∙ c.in_ok-name.ensures in
-    let bytes = c.as_slice.ensures ∙ (c.in_ok-bytes.ensures ∙ ap canon c.in_ok-profile.ensures) in
-    rw (sym name, sym bytes) c.in_ok-put.ensures.put
+    rw (sym name, sym (ap canon c.in_ok-profile.ensures)) c.put_named.ensures.put

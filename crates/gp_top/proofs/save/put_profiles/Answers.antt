@@ -1,14 +1,14 @@
 use Rattle.std.proofs.Common.{[], refl, sym, ap, ◌∙◌, Err, arith}
 use Rattle.std.proofs.lemmas.Result.{err_from_is_err_and}
 use Rattle.std.proofs.lemmas.List.{get_or_read}
-use Rattle.gp_top.specs.Files.{files_of, Told}
+use Rattle.gp_top.specs.Files.{goroutine_files, Told}
 use Rattle.gp_top.proofs.Loading.{same_err}
 use Rattle.gp_top.proofs.Saving.{none_put, goes_on, stops, all_put}
 use Rattle.gp_top.proofs.save.put_profiles.Goals as goal
 
 pub loop-at-init : goal.loop-at-init
 loop-at-init g c = record {
-  so_far = none_put (files_of c.args.program.now c.args.file.now c.args.profiles.now) (g.K.Store.files c.args.store.now, g.K.Store.asked c.args.store.now);
+  so_far = none_put (goroutine_files c.args.program.now c.args.file.now c.args.profiles.now) (g.K.Store.files c.args.store.now, g.K.Store.asked c.args.store.now);
   well = refl;
 }
 

@@ -1,40 +1,42 @@
-use Rattle.std.proofs.Common.{rules, refl, ◌∙◌}
-use Rattle.gp_io.specs.Outside.{Rose}
+use Rattle.std.proofs.Common.{sym, subst, ◌≡◌, ◌⊎◌}
 use Rattle.gp_words.specs.Words.{texts}
-use Rattle.gp_top.specs.kept.Steps.{RunStops}
+use Rattle.gp_words.specs.declared.jobs.Job.TheVariants.{Sim, Dump}
+use Rattle.gp_words.specs.Job.{job_of}
+use Rattle.gp_words.specs.Read.{Names}
 use Rattle.gp_top.specs.Status.{status_of_run}
-use Rattle.gp_top.proofs.Heading.{run_is, status_told, ends}
-use Rattle.gp_top.proofs.Loading.{carried, stopped_words, stopped_load}
+use Rattle.gp_top.specs.Top.{asked_of, IsDump}
+use Rattle.gp_top.proofs.Asking.{asked_names, asked_sim, only_built, settings_same, no_run_and_text}
 use Rattle.gp_top.proofs.top.perform.Goals as goal
 
-pub returns-clause-headline : goal.returns-clause-headline
-returns-clause-headline g c =
-    run_is _ _ _ _ _ _ _ _ _ c.in_ok-program.ensures.accepted c.in_ok-report.ensures c.finish-status.ensures.put
-    (search rules)
-
-pub returns-in_err-file-clause-stopped : goal.returns-in_err-file-clause-stopped
-returns-in_err-file-clause-stopped g c =
-    let left = g.S.Source.left in
-    let faults = g.S.Source.faults in
+pub returns-in-Sim-clause-headline : goal.returns-in-Sim-clause-headline
+returns-in-Sim-clause-headline g c =
     let words = texts c.args.words.now in
-    let source = c.args.source.now in
-    let e = c.in_err-file.field-0.0 in
-    carried c.from_residual.result e (RunStops left faults words source source) c.from_residual.ensures.1 (stopped_words left faults words source source e c.in_err-file.ensures.stopped refl)
+    let settings = c.in-Sim.settings in
+    let job = asked_names words (Sim c.in-Sim.file settings) (subst (λ job. asked_of words ≡ Names job) c.in-Sim.is c.in_ok-job.ensures.ok) in
+    c.in_ok-status-in-Sim.ensures.headline words (subst (λ file. job_of words ≡ Names (Sim file settings)) (sym c.as_str.ensures) job)
 
-pub returns-in_err-program-clause-stopped : goal.returns-in_err-program-clause-stopped
-returns-in_err-program-clause-stopped g c =
-    let left = g.S.Source.left in
-    let faults = g.S.Source.faults in
+pub returns-in-Sim-clause-ended : goal.returns-in-Sim-clause-ended
+returns-in-Sim-clause-ended g c = λ name bytes yours program job held gives none.
     let words = texts c.args.words.now in
-    let old = c.args.source.now in
-    let new = c.load.new.source in
-    let e = c.in_err-program.field-0.0 in
-    carried c.from_residual-in_err-program.result e (RunStops left faults words old new) c.from_residual-in_err-program.ensures.1
-    (stopped_load left faults words old new e (record { file = c.in_ok-file.file; settings = c.in_ok-file.settings; names = c.in_ok-file.ensures.ok }) c.in_err-program.ensures.stopped)
+    let status = c.in_ok-status-in-Sim.status in
+    let asked = subst (λ job. asked_of words ≡ Names job) c.in-Sim.is c.in_ok-job.ensures.ok in
+    subst (λ settings. (status ≡ status_of_run program settings) ⊎ (status ≡ 9)) (settings_same words c.in-Sim.file name c.in-Sim.settings yours asked job)
+    (c.in_ok-status-in-Sim.ensures.ended bytes program held gives none)
 
-pub returns-clause-ended : goal.returns-clause-ended
-returns-clause-ended g c = λ file bytes settings program job held gives none.
-    let told = status_told (texts c.args.words.now) (g.S.Source.left c.args.source.now) c.in_ok-report.report c.in_ok-program.program program c.in_ok-file.settings settings c.in_ok-file.file file bytes
-    c.in_ok-program.ensures.accepted c.in_ok-report.ensures c.in_ok-file.ensures.ok job held gives in
-    ends c.finish-status.result (status_of_run program settings) (Rose (g.K.Store.faults c.args.store.now) (g.K.Store.faults c.finish-status.new.store)) c.finish-status.ensures.fault
-    (λ four nine. c.finish-status.ensures.told four nine ∙ told) none
+pub returns-in-Dump-clause-dump : goal.returns-in-Dump-clause-dump
+returns-in-Dump-clause-dump g c = λ _.
+    let words = texts c.args.words.now in record {
+      file = c.in-Dump.file;
+      job = asked_names words (Dump c.in-Dump.file) (subst (λ job. asked_of words ≡ Names job) c.in-Dump.is c.in_ok-job.ensures.ok);
+      dump = subst (λ status. IsDump (g.S.Source.left c.args.source.now) (g.O.Sink.written c.args.out.now, g.O.Sink.faults c.args.out.now) (g.O.Sink.written c.dumped.new.out, g.O.Sink.faults c.dumped.new.out) status)
+          (sym c.without_report.ensures.status) c.in_ok-status-in-Dump.ensures.dump;
+    }
+
+pub returns-in-Dump-clause-ended : goal.returns-in-Dump-clause-ended
+returns-in-Dump-clause-ended g c = λ name bytes yours program job held gives none.
+    let words = texts c.args.words.now in
+    absurd (no_run_and_text words name c.in-Dump.file yours (asked_sim words name yours job) (subst (λ job. asked_of words ≡ Names job) c.in-Dump.is c.in_ok-job.ensures.ok))
+
+pub returns-clause-stopped : goal.returns-clause-stopped
+returns-clause-stopped g c =
+    absurd (only_built (texts c.args.words.now) c.in_ok-job.job c.in_ok-job.ensures.ok c.in_default.not-Sim c.in_default.not-Dump)
