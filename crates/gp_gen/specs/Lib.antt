@@ -1,0 +1,3 @@
+-- The generated program.
+pub mod Generated
+pub mod GeneratedLaw
