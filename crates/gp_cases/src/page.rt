@@ -50,4 +50,17 @@ impl Page {
         self.line(digits.as_str())?;
         Ok(())
     }
+
+    /// Goes on with bytes that are a text: a blank, and the text with a `;` for each line feed. Without bytes, with nothing.
+    pub fn written(&mut self, bytes: &[u8]) -> Result<(), AllocError> {
+        if bytes.is_empty() {
+            return Ok(());
+        }
+        let text = str::from_utf8(bytes).unwrap_or("no text");
+        for (at, line) in text.split('\n').enumerate() {
+            self.text.push_str(if at == 0 { " " } else { ";" })?;
+            self.text.push_str(line)?;
+        }
+        Ok(())
+    }
 }

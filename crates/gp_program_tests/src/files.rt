@@ -3,7 +3,7 @@ use crate::graphs::graph;
 use crate::programs::numbers;
 use gp_cases::{Page, Unanswered, bytes, lines, word};
 use gp_isa::{Function, LabelSet, Parts, Program, Stmt, What, limits};
-use gp_text::{TextError, read};
+use gp_text::{TextError, print, read};
 use std::alloc::{AllocError, Global};
 
 // The most bytes of a file.
@@ -115,10 +115,30 @@ pub fn file_program(alloc: Global, file: &[u8]) -> Result<Program, Unanswered> {
     read(alloc, file).ok().ok_or(Unanswered::Form)
 }
 
-fn tell(page: &mut Page, kind: &str, program: &Program) -> Result<(), Unanswered> {
+// The text of a program, and whether it is read again as the same program.
+fn printed(alloc: Global, page: &mut Page, program: &Program) -> Result<(), Unanswered> {
+    let text = print(alloc, program)?;
+    for line in text.as_str().lines() {
+        page.line(line)?;
+    }
+    let again = file_program(alloc, text.as_bytes())?;
+    let mut before = Page::new(alloc);
+    list(&mut before, program.parts())?;
+    let mut after = Page::new(alloc);
+    list(&mut after, again.parts())?;
+    page.line(if before.as_str() == after.as_str() {
+        "the same again"
+    } else {
+        "another program"
+    })?;
+    Ok(())
+}
+
+fn tell(alloc: Global, page: &mut Page, kind: &str, program: &Program) -> Result<(), Unanswered> {
     match kind {
         "read" => numbers(page, program)?,
         "list" => list(page, program.parts())?,
+        "print" => printed(alloc, page, program)?,
         _ => sizes(page, program.parts())?,
     }
     Ok(())
@@ -130,7 +150,7 @@ fn tell_file(alloc: Global, page: &mut Page, kind: &str, file: &[u8]) -> Result<
         return Err(Unanswered::Form);
     }
     match read(alloc, file) {
-        Ok(program) => tell(page, kind, &program)?,
+        Ok(program) => tell(alloc, page, kind, &program)?,
         Err(TextError::Refused { line, cause }) => {
             page.number("\nline ", u64::from(line))?;
             page.number(", cause ", u64::from(cause.number()))?;

@@ -6,6 +6,8 @@
 #![tactic(auto)]
 
 mod bodies;
+mod dumps;
+mod events;
 mod files;
 mod graphs;
 mod messages;
@@ -51,7 +53,11 @@ impl Teller for OfProfiles {
             "large" => profiles::large(alloc, page, rest),
             "samples" => samples::samples(alloc, page, rest, rows),
             "decode" => readings::readings(alloc, page, rows),
+            "dump" => dumps::dumps(alloc, page, rows),
             "prefixes" => readings::prefixes(alloc, page, rest),
+            "sums" => events::sums(alloc, page, rest, rows),
+            "contentions" => events::contentions(alloc, page, rest, rows),
+            "keeps" => events::keeps(page, rest),
             _ => messages::message(alloc, page, rows),
         }
     }
@@ -63,5 +69,6 @@ fn main(rt: HostRuntime) -> Result<(), Unanswered> {
     walk::<OfPrograms>(&rt, "grammar.txt")?;
     walk::<OfPrograms>(&rt, "bodies.txt")?;
     walk::<OfProfiles>(&rt, "profiles.txt")?;
-    walk::<OfProfiles>(&rt, "bytes.txt")
+    walk::<OfProfiles>(&rt, "bytes.txt")?;
+    walk::<OfProfiles>(&rt, "events.txt")
 }

@@ -22,7 +22,8 @@ pub fn frame(word: &str) -> Result<Frame, Unanswered> {
     })
 }
 
-fn stack(alloc: Global, row: &str) -> Result<Stack, Unanswered> {
+/// A stack, its frames' words, the leaf first.
+pub fn stack(alloc: Global, row: &str) -> Result<Stack, Unanswered> {
     let mut stack = Stack::new(alloc);
     for word in words(alloc, row)? {
         stack.push(frame(word)?)?;

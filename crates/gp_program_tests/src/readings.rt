@@ -4,8 +4,8 @@ use gp_cases::{Page, Unanswered, bytes};
 use gp_wire::{WireError, decode};
 use std::alloc::Global;
 
-// The bytes of a row.
-fn bytes_of(alloc: Global, row: &str) -> Result<Vec<u8>, Unanswered> {
+/// The bytes of a row.
+pub fn bytes_of(alloc: Global, row: &str) -> Result<Vec<u8>, Unanswered> {
     if row == "none" {
         return Ok(Vec::new(alloc));
     }

@@ -72,8 +72,8 @@ pub fn writes_whole(alloc: Global, page: &mut Page, rows: &[&str]) -> Result<(),
             held: MemSink::new(alloc, fails),
         };
         page.debug("\n", &write_all(&mut sink, text.as_bytes()))?;
-        page.text("; ")?;
-        page.text(str::from_utf8(sink.held.written().as_slice()).unwrap_or("no text"))?;
+        page.text(";")?;
+        page.written(sink.held.written().as_slice())?;
         page.text(".")?;
     }
     Ok(())

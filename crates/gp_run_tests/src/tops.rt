@@ -2,7 +2,7 @@
 use crate::one_byte::OneByte;
 use crate::runs::{tell_frames, tell_journal};
 use crate::words::words_of;
-use gp_cases::{Page, Unanswered, lines, number_64, word};
+use gp_cases::{Page, Unanswered, bytes, lines, number_64, word};
 use gp_io::{Calls, Files, MemSink, MemSource, MemStore};
 use gp_isa::Content;
 use gp_machine::Entry;
@@ -102,50 +102,72 @@ fn calls(alloc: Global, failing: &str) -> Result<Calls, Unanswered> {
     Ok(Calls::from_slice(alloc, &[failing])?)
 }
 
-fn source(alloc: Global, text: &str, failing: &str) -> Result<MemSource, Unanswered> {
-    let file = lines(alloc, text)?;
-    let content = Content::from_slice(alloc, file.as_bytes())?;
-    Ok(MemSource::new(content, calls(alloc, failing)?))
+/// What a call of the program reads from, puts to and writes to.
+#[derive(Drop)]
+struct Devices {
+    source: MemSource,
+    store: MemStore,
+    sink: OneByte,
+}
+
+// A source that holds the file in a row, as bytes or as a text; and the calls of source, store and sink that are to fail.
+fn devices_of(
+    alloc: Global,
+    row: &str,
+    read: &str,
+    put: &str,
+    write: &str,
+) -> Result<Devices, Unanswered> {
+    let (kind, held) = word(row);
+    let content = match kind {
+        "bytes" => Content::from_vec(bytes(alloc, held)?),
+        _ => Content::from_slice(alloc, lines(alloc, held)?.as_bytes())?,
+    };
+    Ok(Devices {
+        source: MemSource::new(content, calls(alloc, read)?),
+        store: MemStore::new(alloc, calls(alloc, put)?),
+        sink: OneByte {
+            held: MemSink::new(alloc, calls(alloc, write)?),
+        },
+    })
+}
+
+// What comes of a command line.
+fn call(alloc: Global, line: &str, devices: &mut Devices) -> Result<Outcome, Unanswered> {
+    let words = words_of(alloc, line)?;
+    let Devices {
+        source,
+        store,
+        sink,
+    } = devices;
+    Ok(plain_top(alloc, words.as_slice(), source, store, sink))
 }
 
 /// What comes of a command line, told as each row asks: `READ PUT LINE`, the read and the put that are to fail (0: none) and
 /// the command line, and the program's file in the first row.
 pub fn top(alloc: Global, page: &mut Page, head: &str, rows: &[&str]) -> Result<(), Unanswered> {
-    let (failing_read, rest) = word(head);
-    let (failing_put, line) = word(rest);
+    let (read, rest) = word(head);
+    let (put, line) = word(rest);
     let (file, rows) = rows.split_first().ok_or(Unanswered::Form)?;
-    let (_, text) = word(file);
-    let words = words_of(alloc, line)?;
-    let mut source = source(alloc, text, failing_read)?;
-    let mut store = MemStore::new(alloc, calls(alloc, failing_put)?);
-    let mut sink = MemSink::new(alloc, Calls::new(alloc));
-    let outcome = plain_top(alloc, words.as_slice(), &mut source, &mut store, &mut sink);
-    tell(alloc, page, &outcome, store.files(), rows)
+    let mut devices = devices_of(alloc, file, read, put, "0")?;
+    let outcome = call(alloc, line, &mut devices)?;
+    tell(alloc, page, &outcome, devices.store.files(), rows)
 }
 
 /// What a command line writes, to a sink that takes one byte at a time: `READ WRITE LINE`, the read and the write that are to
-/// fail (0: none) and the command line, and the program's file in the row. Told are the status, the names of the files that
-/// were put, and what was written, with a `;` for each line feed.
+/// fail (0: none) and the command line, and the file in the row, as a text or as bytes. Told are the status, the names of the
+/// files that were put, and what was written, with a `;` for each line feed.
 pub fn told(alloc: Global, page: &mut Page, head: &str, rows: &[&str]) -> Result<(), Unanswered> {
-    let (failing_read, rest) = word(head);
-    let (failing_write, line) = word(rest);
-    let (_, text) = word(rows.first().ok_or(Unanswered::Form)?);
-    let words = words_of(alloc, line)?;
-    let mut source = source(alloc, text, failing_read)?;
-    let mut store = MemStore::new(alloc, Calls::new(alloc));
-    let mut sink = OneByte {
-        held: MemSink::new(alloc, calls(alloc, failing_write)?),
-    };
-    let outcome = plain_top(alloc, words.as_slice(), &mut source, &mut store, &mut sink);
+    let (read, rest) = word(head);
+    let (write, line) = word(rest);
+    let row = rows.first().ok_or(Unanswered::Form)?;
+    let mut devices = devices_of(alloc, row, read, "0", write)?;
+    let outcome = call(alloc, line, &mut devices)?;
     page.number("\n", u64::from(outcome.status))?;
-    for file in store.files().iter() {
+    for file in devices.store.files().iter() {
         page.text(" ")?;
         page.text(file.0.as_str())?;
     }
-    let written = str::from_utf8(sink.held.written().as_slice()).unwrap_or("no text");
-    if !written.is_empty() {
-        page.text(" ")?;
-        page.text(written.replace(alloc, '\n', ";")?.as_str())?;
-    }
+    page.written(devices.sink.held.written().as_slice())?;
     Ok(())
 }
