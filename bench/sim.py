@@ -94,9 +94,10 @@ with open("smallest.gp", "w", encoding="utf-8") as to:
 (found,), _ = measure([sim("smallest.gp", "--at", 0)])
 print(f"the smallest run: {found[0] * 1000:.1f} ms, {found[1]:.1f} MiB")
 
-for kind, title in (
-    ("shared", "Workers of channels and mutexes alone. An operation is a shared point that was passed."),
-    ("mixed", "Workers of calls, work, channels and mutexes, with one profile. An operation is a shared point or a work passed."),
+for kind, asked, title in (
+    ("shared", [], "Workers of channels and mutexes alone. An operation is a shared point that was passed."),
+    ("shared", ["--block", 1, "--mutex", 1], "The same, with each block and mutex event recorded, as in Go."),
+    ("mixed", ["--at", 1000], "Workers of calls, work, channels and mutexes, with one profile. An operation is a shared point or a work passed."),
 ):
     print(f"\n{title}")
     head("workers", "goroutines", "entries", "ns/entry", "ns/operation", "Go", "ratio", "MiB")
@@ -104,7 +105,7 @@ for kind, title in (
         rows = []
         for n in (4, 8, 16, 32, 64, 128, 256):
             operations = program("it.gp", kind, n)[0]
-            options = ["--workers", workers, *(["--at", "1000"] if kind == "mixed" else [])]
+            options = ["--workers", workers, *asked]
             ((took, memory),), of_go = measure([sim("it.gp", *options, "--entries", MOST)], go=(kind, n))
             rows.append((n, took))
             if n == 256:
