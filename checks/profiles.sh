@@ -13,11 +13,15 @@ fail() {
   failures=$((failures + 1))
 }
 
-# run STATUS FILES WORDS..: runs the program, which prints nothing and puts just these files (names in one word).
+# run STATUS FILES WORDS..: runs the program, which prints nothing and puts just these goroutine profiles (names in one word), and
+# block.pb and mutex.pb where all files of a run are put.
 run() {
   local wanted=$1 files=$2 before got said put
   shift 2
-  rm -f -- goroutine.*.pb 2>/dev/null
+  case $wanted in
+    0 | 5 | 6 | 7 | 8) files="block.pb ${files:+$files }mutex.pb" ;;
+  esac
+  rm -f -- goroutine.*.pb block.pb mutex.pb 2>/dev/null
   before=$(ls -A)
   said=$("$gp" "$@" 2>&1)
   got=$?
@@ -42,12 +46,12 @@ raw() {
   go tool pprof -raw "$1" 2>/dev/null | grep -Eq -- "$2" || fail "pprof -raw $1 shows no line '$2'"
 }
 
-# What pprof shows of a profile: a line a sample, in their order, with its value and its frames, from the leaf on.
+# What pprof shows of a profile: a line a sample, in their order, with its values and its frames, from the leaf on.
 # (Some versions write a column behind the line number.)
 shown() {
   go tool pprof -raw "$1" 2>/dev/null | awk '
     /^[A-Z]/ { part = $1; next }
-    part == "Samples:" && /^ *[0-9]+: [0-9 ]*$/ { samples[++n] = $0 }
+    part == "Samples:" && /^ *[0-9][0-9 ]*: [0-9 ]*$/ { samples[++n] = $0 }
     part == "Locations" && /^ *[0-9]+: / {
       place = $(NF - 1)
       if (place ~ /:[0-9]+:[0-9]+$/) sub(/:[0-9]+$/, "", place)
@@ -55,15 +59,18 @@ shown() {
     }
     END {
       for (i = 1; i <= n; i++) {
-        many = split(samples[i], part_of, " ")
-        line = part_of[1] + 0
-        for (k = 2; k <= many; k++) line = line " " frame[part_of[k]]
+        split(samples[i], half, ":")
+        many = split(half[1], values, " ")
+        line = values[1]
+        for (k = 2; k <= many; k++) line = line " " values[k]
+        many = split(half[2], part_of, " ")
+        for (k = 1; k <= many; k++) line = line " " frame[part_of[k]]
         print line
       }
     }'
 }
 
-# samples FILE SAMPLE..: pprof shows just these samples, in this order, each as `VALUE NAME@FILE:LINE..`.
+# samples FILE SAMPLE..: pprof shows just these samples, in this order, each as `VALUES NAME@FILE:LINE..`, values with a blank between.
 samples() {
   local file=$1 wanted got
   shift
@@ -71,6 +78,26 @@ samples() {
   wanted=$(printf '%s\n' "$@")
   got=$(shown "$file")
   [ "$got" = "$wanted" ] || fail "pprof shows of $file: '$got' in place of '$wanted'"
+}
+
+# waits FILE SAMPLE..: these are the samples of a block or mutex profile, each with how many waits there were and how many
+# nanoseconds they took; pprof knows the two values and takes the second, the delay, unless it's told otherwise.
+waits() {
+  local file=$1
+  samples "$@"
+  raw "$file" '^contentions/count delay/nanoseconds$'
+  top_of "$file" '^Type: delay$'
+}
+
+# top_of FILE PATTERN..: `pprof -top` of a profile has a line for each that fits.
+top_of() {
+  local file=$1 printed pattern
+  shift
+  [ "$has_go" = yes ] || return
+  printed=$(go tool pprof -top "$file" 2>/dev/null)
+  for pattern in "$@"; do
+    grep -Eq -- "$pattern" <<<"$printed" || fail "pprof -top $file shows no line '$pattern'"
+  done
 }
 
 # tags FILE KEY PATTERN..: of this key pprof shows a line for each value that fits, in this order, and no other.
@@ -128,6 +155,18 @@ samples goroutine.1.pb '1 main@a.gp:2'
 decoded goroutine.1.pb '^1 \{ 1: 1 2: 2 \} '
 decoded goroutine.1.pb ' 4 \{ 1: 1 4 \{ 1: 1 2: 2 \} \} '
 texts goroutine.1.pb main a.gp
+
+# Its block profile and its mutex profile, without a sample: 62 known bytes each.
+cat >wanted.hex <<'END'
+0a04080110020a0408031004
+3200320b636f6e74656e74696f6e733205636f756e74
+320564656c6179320b6e616e6f7365636f6e6473
+5a04080110026001
+END
+for file in block.pb mutex.pb; do
+  [ "$(od -An -v -tx1 "$file" | tr -d ' \n')" = "$(tr -d '\n' <wanted.hex)" ] || fail "$file of a.gp has other bytes"
+  waits "$file" ''
+done
 
 # A file of a mebibyte.
 {
@@ -222,6 +261,34 @@ for file in examples/*.gp; do
       run 0 goroutine.1.pb sim "$file" --workers 1 --at 1001
       samples goroutine.1.pb "2 b@$file:13" "1 main@$file:8"
       texts goroutine.1.pb b "$file" main
+      # who waited, and by whose unlock each went on: the unlock of `main` at clock 1,005 is of one that has waited since 1,000, that
+      # of the first `b` at 1,007 of one since 1,000; `main` waits from 1,006 to 1,008 for the first send
+      run 0 '' sim "$file" --workers 1 --block 1 --mutex 1
+      waits mutex.pb "1 7000 b@$file:14" "1 5000 main@$file:8"
+      waits block.pb "2 12000 b@$file:13" "1 2000 main@$file:9"
+      # of one in three both are kept, each for three; of one in two and of one in sixteen neither
+      run 0 '' sim "$file" --workers 1 --mutex 3
+      waits mutex.pb "3 21000 b@$file:14" "3 15000 main@$file:8"
+      waits block.pb ''
+      for fraction in 2 16; do
+        run 0 '' sim "$file" --workers 1 --mutex "$fraction"
+        waits mutex.pb ''
+      done
+      ;;
+    examples/convoy.gp)
+      # by a simulator that was written apart: all 400 locks of `change` are waited for
+      run 0 '' sim "$file" --workers 1 --block 1 --mutex 1
+      waits mutex.pb "399 35846000 change@$file:35 quick@$file:26" "1 2001000 slow@$file:20"
+      waits block.pb "400 37847000 change@$file:33 quick@$file:26" "3 15706000 main@$file:13"
+      top_of mutex.pb '^ *35\.85ms 94\.71% 94\.71% +35\.85ms 94\.71% +change$' '^ *2ms +5\.29% +100% +2ms +5\.29% +slow$'
+      top_of block.pb '^ *37\.85ms .* change$' '^ *15\.71ms .* main$'
+      ;;
+    examples/consumer.gp)
+      # by the same: 32 of the 100 sends wait for room, and the consumer waits for the first item alone
+      run 0 '' sim "$file" --workers 1 --block 1 --mutex 1
+      waits mutex.pb ''
+      waits block.pb "1 22200000 main@$file:10" "32 4345000 deliver@$file:21 producer@$file:16" "1 20000 consumer@$file:26"
+      top_of block.pb '^ *22\.20ms .* main$' '^ *4\.34ms .* deliver$'
       ;;
     examples/service.gp)
       # all requests are answered, and whoever answers waits for the next one: three for reads, two for writes

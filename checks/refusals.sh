@@ -59,7 +59,12 @@ answers 1 'usage 0 1' --help sim
 answers 1 'usage 0 1' run
 answers 1 'usage 0 1' run a.gp --picks 1
 answers 1 'usage 0 1' gen 7 64
-answers 1 'usage 0 1' dump p q
+
+# `dump` takes one word.
+answers 1 'usage 1 2' dump
+answers 1 'usage 1 6' dump ''
+answers 1 'usage 1 6' dump -p
+answers 1 'usage 2 6' dump p q
 
 # FILE.
 answers 1 'usage 1 2' sim
@@ -75,7 +80,7 @@ answers 1 'usage 2 3' sim a.gp '--room 1'
 answers 1 'usage 2 3' sim a.gp $'--room\n' 1
 answers 1 'usage 2 3' sim a.gp ''
 answers 1 'usage 2 3' sim a.gp --hz 100
-answers 1 'usage 2 3' sim a.gp --block
+answers 1 'usage 3 2' sim a.gp --block
 answers 1 'usage 4 3' sim a.gp --at 0 5
 answers 1 'usage 4 5' sim a.gp --room 1 --room 1
 answers 1 'usage 4 5' sim a.gp --room 1 --room
@@ -89,6 +94,8 @@ answers 1 'usage 3 4' sim a.gp --at 1e3
 answers 1 'usage 3 4' sim a.gp --at ' 1'
 answers 1 'usage 3 4' sim a.gp --at END
 answers 1 'usage 3 4' sim a.gp --workers 17
+answers 1 'usage 3 4' sim a.gp --block 2
+answers 1 'usage 5 4' sim a.gp --block 1 --mutex 1000000001
 answers 1 'usage 3 4' sim a.gp --workers ٣
 answers 1 'usage 3 4' sim a.gp --seed 000000000000000000000
 answers 1 'usage 3 4' sim a.gp --picks 1,,2
@@ -120,6 +127,23 @@ refused 'refused line 2 cause 3' 'mutex m\nmutex m\nfunc main {\nlock m\n}\n'
 refused 'refused line 1 cause 4' 'chan c 65536\nfunc main {\nsend c\n}\n'
 refused 'refused line 1 cause 6' '\x1f\x8b\x08'
 
+# Files that are no profiles: a field 0, a compressed one, nothing, a text past the end, and one that isn't there. (Of a field 0 as
+# many bytes are read as a profile may have, and of one more there are too many.)
+no_profile() {
+  printf "$2" >odd.gp
+  answers 2 "$1" dump odd.gp
+}
+no_profile 'refused at 0 cause 4' '\0'
+no_profile 'refused at 0 cause 3' '\x1f\x8b\x08'
+no_profile 'refused at 0 cause 8' ''
+no_profile 'refused at 2 cause 1' '\x32\x00\x32\x02a'
+no_profile 'refused at 2 cause 8' '\x60\x01'
+head -c 67108864 /dev/zero >odd.gp
+answers 2 'refused at 0 cause 4' dump odd.gp
+head -c 67108865 /dev/zero >odd.gp
+answers 2 'refused long' dump odd.gp
+answers 3 'read fault' dump missing.pb
+
 # (of two files alike but for a digit, one has a mebibyte, and the other, refused, a byte more)
 {
   echo 'func main {'
@@ -137,6 +161,10 @@ answers 3 'read fault' sim a.gp/b --at 0
 if [ -w /dev/full ]; then
   "$gp" sim missing.gp --at 0 >/dev/full
   [ $? = 3 ] || fail "on a full output: another status than 3"
+  # (of a dump it is 4)
+  printf '\x32\x00' >odd.gp
+  "$gp" dump odd.gp >/dev/full
+  [ $? = 4 ] || fail "a dump on a full output: another status than 4"
 fi
 
 # The page of help, for people: status 0 where it was asked for.
@@ -144,7 +172,7 @@ for word in --help -h help; do
   "$gp" "$word" >said 2>told
   [ $? = 0 ] || fail "gp $word: another status than 0"
   [ -s said ] && fail "gp $word: it wrote to the standard output"
-  for part in 'gp sim FILE' --workers '1 to 16' 262,144 deadlock COMMANDS.md; do
+  for part in 'gp sim FILE' 'gp dump PROFILE' --workers '1 to 16' 262,144 deadlock COMMANDS.md; do
     grep -q -e "$part" told || fail "gp $word: its page has no '$part'"
   done
 done
@@ -163,6 +191,8 @@ if script -qec true /dev/null </dev/null >/dev/null 2>&1; then
   plain "word 2, '--rooms': an option that is not known" sim odd.gp --rooms 1
   plain 'behind the last word: a word is missing' sim odd.gp --room
   plain 'the file: it could not be opened or read' sim missing.gp
+  printf '\x1f\x8b\x08' >odd.gp
+  plain 'byte 0: a wire type that is not read' dump odd.gp
 else
   echo "skipped: no terminal (no script)"
 fi
