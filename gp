@@ -218,6 +218,7 @@ show_help() {
 gp runs a program of a small goroutine machine, and writes profiles of it that pprof opens. What they show is proved.
 
   gp sim FILE [options]      runs FILE in an order that numbers choose
+  gp dump PROFILE            prints what a profile of pprof's format means
   gp --help                  prints this page
 
 options, each a word and its value (where it isn't given: the value in brackets):
@@ -242,6 +243,11 @@ in_plain_words() {
       read -r _ _ place _ cause <<<"$said"
       what=$(cell 'Causes of status 2' "$cause")
       if [ "$place" = 0 ]; then place='the file'; else place="line $place"; fi
+      ;;
+    'refused at '*)
+      read -r _ _ place _ cause <<<"$said"
+      what=$(cell 'Causes in a profile' "$cause")
+      place="byte $place"
       ;;
     *)
       what=$(cell Lines "$said")
