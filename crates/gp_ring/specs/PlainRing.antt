@@ -1,5 +1,5 @@
 -- The ring as plain lists and numbers, and what each call does to it.
-use Rattle.std.specs.Prelude.{ℕ, ◌+◌, ◌-◌, ◌%◌, Bool, true, false, ◌&&◌, if◌then◌else◌, nat_lt, ◌==◌, Option, None, Some}
+use Rattle.std.specs.Prelude.{ℕ, ◌+◌, ◌-◌, ◌%◌, Bool, true, false, ◌&&◌, ◌||◌, if◌then◌else◌, nat_lt, ◌==◌, Option, None, Some}
 use Rattle.std.specs.Prelude.{List, [], ◌∷◌, ◌++◌, map, length, take, drop, replicate, slice_index}
 use Rattle.std.specs.List.{flat_map}
 use Rattle.gp_layout.specs.Words.{counts_word, overflow_word}
@@ -98,6 +98,10 @@ piece_for offer = record { tag = offer.tag; words = spelled offer.time offer.hea
 
 abbrev pub loss_piece : PlainRing → Piece
 loss_piece ring = record { tag = 0; words = spelled ring.since (replicate ring.hdrsize 0) (ring.pending ∷ []) }
+
+-- there is something to take: an unread record, or the pending loss
+abbrev pub has_more : PlainRing → Bool
+has_more ring = nat_lt 0 (length ring.unread) || nat_lt 0 ring.pending
 
 -- what the last act found is forgotten
 abbrev pub with_nothing : PlainRing → PlainRing

@@ -5,7 +5,7 @@ ghost use Rattle.gp_layout.specs.Spelling.{loss_size, size_of, spelled};
 ghost use Rattle.gp_layout.specs.Place.{raise_of};
 ghost use Rattle.gp_layout.specs.Words.{counts_word};
 ghost use Rattle.gp_ring.specs.PlainRing.{empty_ring, emitted, written, wrote, closed, looked, acted, records_taken};
-ghost use Rattle.gp_ring.specs.PlainRing.{with_nothing, without_loss, loss_piece};
+ghost use Rattle.gp_ring.specs.PlainRing.{with_nothing, without_loss, loss_piece, has_more};
 ghost use Rattle.gp_ring.specs.Follows.{IsOfferable};
 ghost use Rattle.gp_ring.specs.Offered.{offer_of, GoesOn, NumbersFit};
 ghost use Rattle.gp_ring.specs.Shown.{Shows, RestsAt};
@@ -124,6 +124,13 @@ impl Ring {
         ensures { result ≡ counts_word self.now.written_words self.now.written_tags }
     {
         self.w
+    }
+
+    /// Whether there is something to take: an unread record, or a pending loss.
+    pub fn has_more(&self) -> bool
+        ensures { result ≡ has_more self.now }
+    {
+        tags_of(self.r) < tags_of(self.w) || count_of(self.overflow) > 0
     }
 
     // Emits a record.
