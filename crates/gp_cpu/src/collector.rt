@@ -124,6 +124,15 @@ fn list(alloc: Global, counts: IndexMap<CpuKey, u128>) -> Result<CpuSums, Memory
     Ok(Sequence::from_vec(all))
 }
 
+/// How many samples there were of each stack with each tag, and how many were lost, in the order in which they were first
+/// met. The rate record, the first one where that has no frames, isn't counted.
+pub fn sums(alloc: Global, records: &CpuRecords) -> Result<CpuSums, Memory>
+    ensures { IfOk result (λ sums. sums ≡ cpu_sums records.now) }
+{
+    let counts = count(alloc, counted_records(records.as_slice()))?;
+    list(alloc, counts)
+}
+
 impl Collector {
     /// No records yet, which takes no memory so far.
     pub fn new(alloc: Global) -> Result<Collector, Memory>
@@ -163,12 +172,18 @@ impl Collector {
         &self.records
     }
 
-    /// How many samples there were of each stack with each tag, and how many were lost, in the order in which they were
-    /// first met. The rate record, the first one where that has no frames, isn't counted.
+    /// The records, in their order, which takes no memory.
+    pub fn into_records(self) -> CpuRecords
+        ensures { result ≡ self }
+    {
+        let Collector { records } = self;
+        records
+    }
+
+    /// The sums of the records, as [`sums`] gives them.
     pub fn sums(&self, alloc: Global) -> Result<CpuSums, Memory>
         ensures { IfOk result (λ sums. sums ≡ cpu_sums self.now) }
     {
-        let counts = count(alloc, counted_records(self.records.as_slice()))?;
-        list(alloc, counts)
+        sums(alloc, &self.records)
     }
 }

@@ -33,7 +33,7 @@ mod laws;
 mod record;
 mod sum;
 
-pub use collector::Collector;
+pub use collector::{Collector, sums};
 pub use laws::{law_batches, law_samples, law_sums};
 pub use record::{CpuRecord, CpuRecords};
 pub use sum::{CpuKey, CpuSum, CpuSums};
