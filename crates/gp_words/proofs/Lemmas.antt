@@ -56,18 +56,19 @@ dump_kind (file ∷ more ∷ words) job e = go (is_file_word file) e where
   go true p = absurd cc
   go false p = absurd cc
 
--- a simulated run is named by `sim`
-pub by_sim : (word : List ℕ) (words : List (List ℕ)) (job : Job) → said_by word words ≡ Names job → kind job ≡ 1 → bytes_eq word (codes "sim") ≡ true
+-- a run on threads is named by `run` alone
+pub by_run : (word : List ℕ) (words : List (List ℕ)) (job : Job) → said_by word words ≡ Names job → kind job ≡ 0 → bytes_eq word (codes "run") ≡ true
 unfolding said_by
-by_sim word words job e is = go (bytes_eq word (codes "run")) (bytes_eq word (codes "sim")) (bytes_eq word (codes "gen")) (bytes_eq word (codes "dump")) e where
-  go : (a b c d : Bool) → cond a (run_of words) (cond b (sim_of words) (cond c (gen_of words) (cond d (dump_of words) (Faults 0 bad_command)))) ≡ Names job → b ≡ true
-  go true b c d p = absurd (omega (arith, run_kind words job p))
-  go false true c d p = refl
+by_run word words job e is = go (bytes_eq word (codes "run")) (bytes_eq word (codes "sim")) (bytes_eq word (codes "gen")) (bytes_eq word (codes "dump")) e where
+  go : (a b c d : Bool) → cond a (run_of words) (cond b (sim_of words) (cond c (gen_of words) (cond d (dump_of words) (Faults 0 bad_command)))) ≡ Names job → a ≡ true
+  go true b c d p = refl
+  go false true c d p = absurd (omega (arith, sim_kind words job p))
   go false false true d p = absurd (omega (arith, gen_kind words job p))
   go false false false true p = absurd (omega (arith, dump_kind words job p))
   go false false false false p = absurd cc
 
--- and `sim` names nothing else
-pub sim_names : (word : List ℕ) (words : List (List ℕ)) (job : Job) → word ≡ codes "sim" → said_by word words ≡ Names job → kind job ≡ 1
+-- and `run` names nothing else
+pub run_names : (word : List ℕ) (words : List (List ℕ)) (job : Job) → bytes_eq word (codes "run") ≡ true → said_by word words ≡ Names job → kind job ≡ 0
 unfolding said_by
-sim_names word words job is e = sim_kind words job (sym (ap (λ c. said_by c words) is) ∙ e)
+run_names word words job is e =
+    run_kind words job (sym (ap (λ b. cond b (run_of words) (cond (bytes_eq word (codes "sim")) (sim_of words) (cond (bytes_eq word (codes "gen")) (gen_of words) (cond (bytes_eq word (codes "dump")) (dump_of words) (Faults 0 bad_command))))) is) ∙ e)

@@ -24,11 +24,14 @@ table =
     record { word = codes "--workers"; setting = Workers; in_run = true }
     ∷ record { word = codes "--at"; setting = At; in_run = true }
     ∷ record { word = codes "--room"; setting = Room; in_run = true }
+    ∷ record { word = codes "--hz"; setting = Hz; in_run = true }
     ∷ record { word = codes "--block"; setting = Block; in_run = true }
     ∷ record { word = codes "--mutex"; setting = Mutex; in_run = true }
     ∷ record { word = codes "--seed"; setting = Seed; in_run = true }
     ∷ record { word = codes "--cells"; setting = Cells; in_run = true }
     ∷ record { word = codes "--entries"; setting = Entries; in_run = true }
+    ∷ record { word = codes "--ring"; setting = Ring; in_run = true }
+    ∷ record { word = codes "--tags"; setting = Tags; in_run = true }
     ∷ record { word = codes "--picks"; setting = Picks; in_run = false }
     ∷ []
 

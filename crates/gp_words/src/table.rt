@@ -16,8 +16,8 @@ struct Row {
     in_run: bool,
 }
 
-// The options that can be given. What has no row has its usual value.
-const TABLE: [Row; 9] = [
+// The options that can be given.
+const TABLE: [Row; 12] = [
     Row {
         word: "--workers",
         setting: Setting::Workers,
@@ -31,6 +31,11 @@ const TABLE: [Row; 9] = [
     Row {
         word: "--room",
         setting: Setting::Room,
+        in_run: true,
+    },
+    Row {
+        word: "--hz",
+        setting: Setting::Hz,
         in_run: true,
     },
     Row {
@@ -56,6 +61,16 @@ const TABLE: [Row; 9] = [
     Row {
         word: "--entries",
         setting: Setting::Entries,
+        in_run: true,
+    },
+    Row {
+        word: "--ring",
+        setting: Setting::Ring,
+        in_run: true,
+    },
+    Row {
+        word: "--tags",
+        setting: Setting::Tags,
         in_run: true,
     },
     Row {
