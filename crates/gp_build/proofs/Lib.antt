@@ -9,3 +9,4 @@ pub mod Steps
 pub mod Total
 pub mod Spelling
 pub mod Ids
+pub mod Faultless

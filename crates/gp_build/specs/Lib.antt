@@ -9,6 +9,8 @@ pub mod Samples
 pub mod Profile
 -- The block and mutex profiles of sums of waits.
 pub mod Contention
+-- The CPU profile of the records of samples.
+pub mod Cpu
 -- What a profile means.
 pub mod Meant
 -- What is kept in between, and proofs that members of impls cite. No public contract rests on either.

@@ -1,4 +1,5 @@
 ghost use Rattle.std.specs.Prelude.{◌≡◌, IfOk};
+ghost use Rattle.gp_wire.specs.RoundTrip.{Fits, IsValid};
 ghost use Rattle.gp_build.specs.Message.{profile_of, profile_with};
 
 use crate::lines::Lines;
@@ -19,9 +20,10 @@ fn from_tables<'a>(
     all: &Tables<'a>,
     lines: &Lines,
 ) -> Result<Profile, Memory>
-    ensures { let t = all.now in
+    ensures profile { let t = all.now in
         IfOk result (λ profile. profile ≡ profile_with parts.now file.now header.now samples.now
         t.strings.keys t.locations.keys t.functions.keys) }
+    ensures fits { IfOk result (λ profile. Fits profile) }
 {
     Ok(Profile {
         sample_types: messages::kinds(alloc, &all.strings, header.types.as_slice())?,
@@ -37,7 +39,8 @@ fn from_tables<'a>(
 
 /// The profile of samples, which stand in it in their order, as Go's `runtime/pprof` makes it. `file` is the name of the
 /// program's file, which all its functions have as filename. A function that the program doesn't have shows as one
-/// without a name at line 0, and a label set that it doesn't have as the empty one.
+/// without a name at line 0, and a label set that it doesn't have as the empty one. The profile is valid, so that what is
+/// written of it is read again.
 pub fn profile<'a>(
     alloc: Global,
     program: &'a Program,
@@ -45,7 +48,8 @@ pub fn profile<'a>(
     header: &'a Header,
     samples: &'a [StackSample],
 ) -> Result<Profile, Memory>
-    ensures { IfOk result (λ profile. profile ≡ profile_of program.now file.now header.now samples.now) }
+    ensures profile { IfOk result (λ profile. profile ≡ profile_of program.now file.now header.now samples.now) }
+    ensures valid { IfOk result (λ profile. IsValid profile) }
 {
     let parts = program.parts();
     let mut lines = Lines::new(alloc, parts)?;

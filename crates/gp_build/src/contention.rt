@@ -1,4 +1,5 @@
 ghost use Rattle.std.specs.Prelude.{◌≡◌, map, IfOk};
+ghost use Rattle.gp_wire.specs.RoundTrip.{IsValid};
 ghost use Rattle.gp_build.specs.Site.{site_of};
 ghost use Rattle.gp_build.specs.Contention.{contentions, delays, contention_header, capped, sample_of_sum, contention_profile_of};
 
@@ -38,14 +39,15 @@ fn header(alloc: Global) -> Result<Header, Memory>
     })
 }
 
-// A sum as it is written.
-fn capped(sum: u128) -> i64
+/// A sum as it is written.
+pub(crate) fn capped(sum: u128) -> i64
     ensures { result ≡ capped sum }
 {
     sum.min(9_223_372_036_854_775_807) as i64
 }
 
-fn sites(alloc: Global, stack: &[Frame]) -> Result<Sites, Memory>
+/// The sites of a stack's frames.
+pub(crate) fn sites(alloc: Global, stack: &[Frame]) -> Result<Sites, Memory>
     ensures { IfOk result (λ sites. sites ≡ map site_of stack.now) }
 {
     let mut sites = room(alloc, stack.len())?;
@@ -86,7 +88,8 @@ pub fn contention_profile<'a>(
     file: &'a str,
     sums: &'a Sums,
 ) -> Result<Profile, Memory>
-    ensures { IfOk result (λ profile. profile ≡ contention_profile_of program.now file.now sums.now) }
+    ensures profile { IfOk result (λ profile. profile ≡ contention_profile_of program.now file.now sums.now) }
+    ensures valid { IfOk result (λ profile. IsValid profile) }
 {
     let samples = samples(alloc, sums.as_slice())?;
     let header = header(alloc)?;

@@ -1,4 +1,5 @@
 ghost use Rattle.std.specs.Prelude.{◌≡◌, IfOk};
+ghost use Rattle.gp_wire.specs.RoundTrip.{IsValid};
 ghost use Rattle.gp_build.specs.Profile.{goroutines, goroutine_header, goroutine_profile_of};
 
 use crate::building::profile;
@@ -37,7 +38,8 @@ pub fn goroutine_profile<'a>(
     file: &'a str,
     records: &'a Records,
 ) -> Result<Profile, Memory>
-    ensures { IfOk result (λ profile. profile ≡ goroutine_profile_of program.now file.now records.now) }
+    ensures profile { IfOk result (λ profile. profile ≡ goroutine_profile_of program.now file.now records.now) }
+    ensures valid { IfOk result (λ profile. IsValid profile) }
 {
     let samples = samples(alloc, program.parts(), records.as_slice())?;
     let header = header(alloc)?;

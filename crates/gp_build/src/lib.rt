@@ -36,11 +36,18 @@
 //! **Block and mutex.** The sums of waits come in their order (`gp_events`), and each makes a sample of two values, how many
 //! waits there were and how many nanoseconds they took, each at most 2^63 - 1 (`contention`): [`contention_profile`].
 //!
+//! **CPU.** The sums of the records that a reader took (`gp_cpu`) come in the order in which they are first met, and each makes a
+//! sample of two values, how many ticks it counts and the nanoseconds that these stand for, each at most 2^63 - 1 (`cpu`):
+//! [`cpu_profile`]. What was lost makes one sample, at its place, whose one site is that of lost events.
+//!
+//! **Read again.** A profile that is built is valid, whatever it is built of: its numbers lie in the ranges of their types, its
+//! texts are texts, each number names what is there, and no id stands twice. So its canonical bytes give it back (`gp_wire`).
+//!
 //! The profile that has to come out is a definition over lists: any profile in `specs/Message.antt`, where a number is
 //! a place in the list of what was seen first (`specs/FirstNeed.antt`, `specs/Numbers.antt`); the goroutine profile in
-//! `specs/Profile.antt`, that of sums in `specs/Contention.antt`; groups are filters and counts and an order is insertion one by one
-//! (`specs/Samples.antt`). The code has maps in insertion order and one stable sort, so its time grows with the number
-//! of records and sites, and that of the sort besides.
+//! `specs/Profile.antt`, that of sums in `specs/Contention.antt`, that of samples in `specs/Cpu.antt`; groups are filters and
+//! counts and an order is insertion one by one (`specs/Samples.antt`). The code has maps in insertion order and one stable
+//! sort, so its time grows with the number of records and sites, and that of the sort besides.
 //!
 //! The empty text has number 0, which in a label says that there is no text. So the empty value of a label is a text of
 //! its own in the string table, which is empty too.
@@ -49,6 +56,7 @@
 mod building;
 mod compare;
 mod contention;
+mod cpu;
 mod goroutine;
 mod lines;
 mod lookup;
@@ -65,6 +73,7 @@ mod tables;
 
 pub use building::profile;
 pub use contention::contention_profile;
+pub use cpu::cpu_profile;
 pub use goroutine::goroutine_profile;
 pub use means::meaning;
 pub use meant::{

@@ -1,6 +1,7 @@
 //! The messages of a profile, which name texts, locations and functions by their numbers.
 
-ghost use Rattle.std.specs.Prelude.{◌≡◌, ◌∷◌, [], map, IfOk};
+ghost use Rattle.std.specs.Prelude.{◌≡◌, ◌∷◌, [], map, All, IfOk};
+ghost use Rattle.gp_wire.specs.RoundTrip.{IsWord, IsInt64, IsText, TypeFits, PeriodFits, LabelFits, SampleFits, LocationFits, FunctionFits};
 ghost use Rattle.gp_build.specs.Numbers as numbers;
 ghost use Rattle.gp_build.specs.Numbers.{string_number, text_of};
 ghost use Rattle.gp_build.specs.Message.{type_of, period_type_of, label_of, sample_of, location_of, function_in};
@@ -14,7 +15,7 @@ use crate::tables::place;
 use gp_isa::{Memory, Pair, Parts, Sequence, Text};
 use gp_wire::{
     Function, Functions, Label, Labels, Line, Location, Locations, Sample, Samples, Strings,
-    ValueType, ValueTypes, Words,
+    ValueType, ValueTypes, Values, Words,
 };
 use indexmap::IndexSet;
 use std::alloc::Global;
@@ -43,7 +44,8 @@ fn number<'a>(strings: &IndexSet<Need<'a>>, need: &Need<'a>) -> i64
 }
 
 fn kind<'a>(strings: &IndexSet<Need<'a>>, kind: &'a Kind) -> ValueType
-    ensures { result ≡ type_of strings.now.keys kind.now }
+    ensures kind { result ≡ type_of strings.now.keys kind.now }
+    ensures fits { TypeFits result }
 {
     ValueType {
         kind: number(strings, &Need::text(kind.name.as_str())),
@@ -57,7 +59,8 @@ pub(crate) fn kinds<'a>(
     strings: &IndexSet<Need<'a>>,
     kinds: &'a [Kind],
 ) -> Result<ValueTypes, Memory>
-    ensures { IfOk result (λ types. types ≡ map (type_of strings.now.keys) kinds.now) }
+    ensures types { IfOk result (λ types. types ≡ map (type_of strings.now.keys) kinds.now) }
+    ensures fit { IfOk result (λ types. All TypeFits types) }
 {
     let mut types = room(alloc, kinds.len())?;
     for item in kinds {
@@ -71,7 +74,8 @@ pub(crate) fn period_type<'a>(
     strings: &IndexSet<Need<'a>>,
     period: &'a Option<Kind>,
 ) -> Option<ValueType>
-    ensures { result ≡ period_type_of strings.now.keys period.now }
+    ensures kind { result ≡ period_type_of strings.now.keys period.now }
+    ensures fits { PeriodFits result }
 {
     match period {
         None => None,
@@ -80,7 +84,8 @@ pub(crate) fn period_type<'a>(
 }
 
 fn label<'a>(strings: &IndexSet<Need<'a>>, pair: &'a Pair) -> Label
-    ensures { result ≡ label_of strings.now.keys pair.now }
+    ensures label { result ≡ label_of strings.now.keys pair.now }
+    ensures fits { LabelFits result }
 {
     Label {
         key: number(strings, &Need::text(pair.key.as_str())),
@@ -95,7 +100,8 @@ fn labels<'a>(
     strings: &IndexSet<Need<'a>>,
     pairs: &'a [Pair],
 ) -> Result<Labels, Memory>
-    ensures { IfOk result (λ labels. labels ≡ map (label_of strings.now.keys) pairs.now) }
+    ensures labels { IfOk result (λ labels. labels ≡ map (label_of strings.now.keys) pairs.now) }
+    ensures fit { IfOk result (λ labels. All LabelFits labels) }
 {
     let mut labels = room(alloc, pairs.len())?;
     for pair in pairs {
@@ -134,13 +140,25 @@ fn location_ids(
     lines: &Lines,
     stack: &[Site],
 ) -> Result<Words, Memory>
-    ensures { IfOk result (λ ids. ids ≡ map (numbers.location_id locations.now.keys) stack.now) }
+    ensures ids { IfOk result (λ ids. ids ≡ map (numbers.location_id locations.now.keys) stack.now) }
+    ensures fit { IfOk result (λ ids. All IsWord ids) }
 {
     let mut ids = room(alloc, stack.len())?;
     for site in stack {
         ids.push(met_id(locations, lines, *site))?;
     }
     Ok(ids)
+}
+
+fn values(alloc: Global, values: &[i64]) -> Result<Values, Memory>
+    ensures values { IfOk result (λ copy. copy ≡ values.now) }
+    ensures fit { IfOk result (λ copy. All IsInt64 copy) }
+{
+    let mut copy = room(alloc, values.len())?;
+    for value in values {
+        copy.push(*value)?;
+    }
+    Ok(copy)
 }
 
 fn sample<'a>(
@@ -151,11 +169,12 @@ fn sample<'a>(
     lines: &Lines,
     sample: &StackSample,
 ) -> Result<Sample, Memory>
-    ensures { IfOk result (λ message. message ≡ sample_of parts.now strings.now.keys locations.now.keys sample.now) }
+    ensures message { IfOk result (λ message. message ≡ sample_of parts.now strings.now.keys locations.now.keys sample.now) }
+    ensures fits { IfOk result (λ message. SampleFits message) }
 {
     Ok(Sample {
         location_ids: location_ids(alloc, locations, lines, sample.stack.as_slice())?,
-        values: Sequence::from_slice(alloc, sample.values.as_slice())?,
+        values: values(alloc, sample.values.as_slice())?,
         labels: labels(alloc, strings, lookup::labels(parts, sample.set))?,
     })
 }
@@ -168,7 +187,8 @@ pub(crate) fn samples<'a>(
     lines: &Lines,
     samples: &[StackSample],
 ) -> Result<Samples, Memory>
-    ensures { IfOk result (λ messages. messages ≡ map (sample_of parts.now strings.now.keys locations.now.keys) samples.now) }
+    ensures messages { IfOk result (λ messages. messages ≡ map (sample_of parts.now strings.now.keys locations.now.keys) samples.now) }
+    ensures fit { IfOk result (λ messages. All SampleFits messages) }
 {
     let mut messages = room(alloc, samples.len())?;
     for item in samples {
@@ -183,7 +203,8 @@ fn location(
     functions: &IndexSet<Routine>,
     site: Site,
 ) -> Result<Location, Memory>
-    ensures { IfOk result (λ location. location ≡ location_of locations.now.keys functions.now.keys site) }
+    ensures location { IfOk result (λ location. location ≡ location_of locations.now.keys functions.now.keys site) }
+    ensures fits { IfOk result (λ location. LocationFits location) }
 {
     let line = Line {
         function_id: function_id(functions, site.routine),
@@ -200,7 +221,8 @@ pub(crate) fn locations(
     table: &IndexSet<Site>,
     functions: &IndexSet<Routine>,
 ) -> Result<Locations, Memory>
-    ensures { IfOk result (λ locations. locations ≡ map (location_of table.now.keys functions.now.keys) table.now.keys) }
+    ensures locations { IfOk result (λ locations. locations ≡ map (location_of table.now.keys functions.now.keys) table.now.keys) }
+    ensures fit { IfOk result (λ locations. All LocationFits locations) }
 {
     let mut locations = room(alloc, table.len())?;
     for site in table.as_slice() {
@@ -216,7 +238,8 @@ fn function<'a>(
     functions: &IndexSet<Routine>,
     routine: Routine,
 ) -> Function
-    ensures { result ≡ function_in parts.now file.now strings.now.keys functions.now.keys routine }
+    ensures function { result ≡ function_in parts.now file.now strings.now.keys functions.now.keys routine }
+    ensures fits { FunctionFits result }
 {
     let name = number(strings, &Need::text(name(parts, routine)));
     Function {
@@ -235,7 +258,8 @@ pub(crate) fn functions<'a>(
     strings: &IndexSet<Need<'a>>,
     table: &IndexSet<Routine>,
 ) -> Result<Functions, Memory>
-    ensures { IfOk result (λ all. all ≡ map (function_in parts.now file.now strings.now.keys table.now.keys) table.now.keys) }
+    ensures functions { IfOk result (λ all. all ≡ map (function_in parts.now file.now strings.now.keys table.now.keys) table.now.keys) }
+    ensures fit { IfOk result (λ all. All FunctionFits all) }
 {
     let mut functions = room(alloc, table.len())?;
     for routine in table.as_slice() {
@@ -245,7 +269,8 @@ pub(crate) fn functions<'a>(
 }
 
 pub(crate) fn strings(alloc: Global, table: &IndexSet<Need>) -> Result<Strings, Memory>
-    ensures { IfOk result (λ strings. strings ≡ map text_of table.now.keys) }
+    ensures strings { IfOk result (λ strings. strings ≡ map text_of table.now.keys) }
+    ensures texts { IfOk result (λ strings. All IsText strings) }
 {
     let mut strings = room(alloc, table.len())?;
     for need in table.as_slice() {

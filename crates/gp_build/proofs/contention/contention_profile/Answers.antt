@@ -4,10 +4,10 @@ use Rattle.gp_build.specs.Message.{profile_of}
 use Rattle.gp_build.specs.Contention.{sample_of_sum, contention_profile_of}
 use Rattle.gp_build.proofs.contention.contention_profile.Goals as goal
 
-pub returns : goal.returns
+pub returns-clause-profile : goal.returns-clause-profile
 unfolding contention_profile_of
-returns c =
+returns-clause-profile c =
     let samples = c.as_slice-2.ensures.value ∙ c.in_ok-samples.ensures ∙ ap (map sample_of_sum) c.as_slice.ensures in
     subst (λ (profile : Profile). IfOk c.profile.result (λ p. p ≡ profile))
     (λ i. profile_of c.args.program.now c.args.file.now (c.in_ok-header.ensures i) (samples i))
-    c.profile.ensures
+    c.profile.ensures.profile

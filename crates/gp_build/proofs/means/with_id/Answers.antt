@@ -1,4 +1,4 @@
-use Rattle.std.proofs.Common.{◌≡◌, ◌-◌, false, map, sym, ap, ◌∙◌}
+use Rattle.std.proofs.Common.{◌-◌, sym, ap, ◌∙◌}
 use Rattle.std.specs.Option.{option_copied}
 use Rattle.gp_wire.specs.Valid.{bad_ids}
 use Rattle.gp_build.proofs.Ids.{found_id, found_place, absent_id}
