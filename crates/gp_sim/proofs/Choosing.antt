@@ -1,30 +1,30 @@
--- One of some actions is chosen.
+-- One of some acts is chosen.
 use Rattle.std.proofs.Common.{◌≡◌, ◌<◌, ◌≤◌, ◌+◌, ◌%◌, ℕ, Bool, true, false, ◌==◌, List, [], ◌∷◌, length, get_or, Option, Some, None, refl, sym, ap, subst, arith, if◌then◌else◌}
 use Rattle.std.proofs.lemmas.Bool.{eqb-true, eqb-false}
 use Rattle.std.proofs.lemmas.List.{get_or_read}
-use Rattle.gp_journal.specs.declared.entry.Entry.{Entry}
 use Rattle.gp_journal.specs.declared.settings.Settings.{Settings}
+use Rattle.gp_sim.specs.declared.numbers.Act.{Act}
 use Rattle.gp_sim.specs.declared.numbers.Draw.{Draw}
 use Rattle.gp_sim.specs.Choice.{number, chosen}
 use Rattle.gp_sim.specs.kept.Numbers.{drawn_of}
 
-none_there : (settings : Settings) (taken : ℕ) (entries : List Entry) → length entries ≡ 0 → chosen settings taken entries ≡ None
+none_there : (settings : Settings) (taken : ℕ) (acts : List Act) → length acts ≡ 0 → chosen settings taken acts ≡ None
 none_there settings taken [] e = refl
 none_there settings taken (one ∷ more) e = absurd (omega arith)
 
-one_there : (settings : Settings) (taken : ℕ) (entries : List Entry) (entry : Entry) → length entries ≡ 1 → entry ≡ get_or entries 0 entry → chosen settings taken entries ≡ Some (record { entry = entry; taken = taken })
-one_there settings taken [] entry e is = absurd (omega arith)
-one_there settings taken (one ∷ []) entry e is = ap (λ (x : Entry). Some (record { entry = x; taken = taken })) (sym is)
-one_there settings taken (one ∷ other ∷ more) entry e is = absurd (omega arith)
+one_there : (settings : Settings) (taken : ℕ) (acts : List Act) (act : Act) → length acts ≡ 1 → act ≡ get_or acts 0 act → chosen settings taken acts ≡ Some (record { act = act; taken = taken })
+one_there settings taken [] act e is = absurd (omega arith)
+one_there settings taken (one ∷ []) act e is = ap (λ (x : Act). Some (record { act = x; taken = taken })) (sym is)
+one_there settings taken (one ∷ other ∷ more) act e is = absurd (omega arith)
 
-more_there : (settings : Settings) (taken : ℕ) (entries : List Entry) (entry : Entry) → 2 ≤ length entries → entry ≡ get_or entries (number settings taken % length entries) entry →
-    chosen settings taken entries ≡ Some (record { entry = entry; taken = taken + 1 })
-more_there settings taken [] entry e is = absurd (omega arith)
-more_there settings taken (one ∷ []) entry e is = absurd (omega arith)
-more_there settings taken (one ∷ other ∷ more) entry e is =
+more_there : (settings : Settings) (taken : ℕ) (acts : List Act) (act : Act) → 2 ≤ length acts → act ≡ get_or acts (number settings taken % length acts) act →
+    chosen settings taken acts ≡ Some (record { act = act; taken = taken + 1 })
+more_there settings taken [] act e is = absurd (omega arith)
+more_there settings taken (one ∷ []) act e is = absurd (omega arith)
+more_there settings taken (one ∷ other ∷ more) act e is =
     let among = one ∷ other ∷ more in
-    ap (λ (x : Entry). Some (record { entry = x; taken = taken + 1 }))
-    (sym (get_or_read among (number settings taken % length among) entry (omega arith) is one))
+    ap (λ (x : Act). Some (record { act = x; taken = taken + 1 }))
+    (sym (get_or_read among (number settings taken % length among) act (omega arith) is one))
 
 -- what is drawn, by the tests of how many there are
 abbrev drawn_by : Settings → ℕ → ℕ → Bool → Bool → Option Draw
@@ -56,20 +56,20 @@ pub draw_takes : (settings : Settings) (taken among : ℕ) (draw : Draw) → dra
 draw_takes settings taken among draw e =
     by_tests settings taken among (λ d. (taken ≤ d.taken) × (d.taken ≤ taken + 1)) (λ one. (omega arith, omega arith)) (λ many. (omega arith, omega arith)) draw e
 
--- One of some entries is chosen by its place,
-pub chosen_at : (settings : Settings) (taken : ℕ) (entries : List Entry) (entry : Entry) (draw : Draw) → drawn_of settings taken (length entries) ≡ Some draw → entry ≡ get_or entries draw.place entry →
-    chosen settings taken entries ≡ Some (record { entry = entry; taken = draw.taken })
-chosen_at settings taken entries entry draw e =
-    by_tests settings taken (length entries) (λ d. entry ≡ get_or entries d.place entry → chosen settings taken entries ≡ Some (record { entry = entry; taken = d.taken }))
-    (λ one is. one_there settings taken entries entry one is)
-    (λ many is. more_there settings taken entries entry many is) draw e
+-- One of some acts is chosen by its place,
+pub chosen_at : (settings : Settings) (taken : ℕ) (acts : List Act) (act : Act) (draw : Draw) → drawn_of settings taken (length acts) ≡ Some draw → act ≡ get_or acts draw.place act →
+    chosen settings taken acts ≡ Some (record { act = act; taken = draw.taken })
+chosen_at settings taken acts act draw e =
+    by_tests settings taken (length acts) (λ d. act ≡ get_or acts d.place act → chosen settings taken acts ≡ Some (record { act = act; taken = d.taken }))
+    (λ one is. one_there settings taken acts act one is)
+    (λ many is. more_there settings taken acts act many is) draw e
 
 -- and none where none is drawn.
-pub none_chosen_of : (settings : Settings) (taken : ℕ) (entries : List Entry) → drawn_of settings taken (length entries) ≡ None → chosen settings taken entries ≡ None
-none_chosen_of settings taken entries e = none_there settings taken entries (at (length entries == 0) refl (length entries == 1) e)
+pub none_chosen_of : (settings : Settings) (taken : ℕ) (acts : List Act) → drawn_of settings taken (length acts) ≡ None → chosen settings taken acts ≡ None
+none_chosen_of settings taken acts e = none_there settings taken acts (at (length acts == 0) refl (length acts == 1) e)
   where
-    at : (none : Bool) → (length entries == 0) ≡ none → (single : Bool) →
-        drawn_by settings taken (length entries) none single ≡ None → length entries ≡ 0
-    at true e0 single e = eqb-true (length entries) 0 e0
+    at : (none : Bool) → (length acts == 0) ≡ none → (single : Bool) →
+        drawn_by settings taken (length acts) none single ≡ None → length acts ≡ 0
+    at true e0 single e = eqb-true (length acts) 0 e0
     at false e0 true e = absurd (cc)
     at false e0 false e = absurd (cc)

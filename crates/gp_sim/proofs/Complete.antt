@@ -17,8 +17,8 @@ use Rattle.gp_machine.specs.kept.Crowd.{one_if}
 use Rattle.gp_journal.specs.Reached.{IsReached}
 use Rattle.gp_journal.specs.Standing.{head_of, first_behind}
 use Rattle.gp_journal.proofs.Lemmas.{statuses_match_workers, is_kept, holds_runnable, runs_there}
-use Rattle.gp_sim.specs.Choice.{goes_on_with, idle_action, action_of_worker, worker_action, goes_on, answers, profiler_action, with_action, actions_from, actions, chosen}
-use Rattle.gp_sim.proofs.Enabled.{count_none, none_chosen}
+use Rattle.gp_sim.specs.Choice.{goes_on_with, idle_action, action_of_worker, worker_action, goes_on, answers, profiler_action, with_action, actions_from, actions, acts_of, chosen}
+use Rattle.gp_sim.proofs.Enabled.{count_none, none_chosen, none_made}
 
 -- no action is one of none
 nothing_of : (action : Option Entry) (entries : List Entry) → with_action action entries ≡ [] → (action ≡ None) × (entries ≡ [])
@@ -179,5 +179,5 @@ module _ (code : Code) (settings : Settings) (s : State) where
     none_enabled range e = complete range (all_rest e)
 
     -- and so it is where none is chosen
-    pub none_turns : AreInRange settings → (taken : ℕ) → chosen settings taken (actions code settings s) ≡ None → IsComplete settings s
-    none_turns range taken e = none_enabled range (none_chosen settings taken (actions code settings s) e)
+    pub none_turns : AreInRange settings → (reads : Bool) (taken : ℕ) → chosen settings taken (acts_of (actions code settings s) reads) ≡ None → IsComplete settings s
+    none_turns range reads taken e = none_enabled range (none_made (actions code settings s) reads (none_chosen settings taken (acts_of (actions code settings s) reads) e))

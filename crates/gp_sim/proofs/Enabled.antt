@@ -1,8 +1,8 @@
 -- What the choice may choose is legal.
-use Rattle.std.proofs.Common.{◌≡◌, ◌⊎◌, inl, inr, ◌+◌, ◌%◌, ◌<◌, ◌≤◌, ℕ, Bool, true, false, not, ◌&&◌, ◌||◌, ◌==◌, cond, List, [], ◌∷◌, length, get_or, count_by, position, zero, suc, Option, Some, None, is_none, refl, sym, ap, ◌∙◌, subst, arith, if◌then◌else◌, nat_lt, nat_le, true≢false}
+use Rattle.std.proofs.Common.{◌≡◌, ◌⊎◌, inl, inr, ◌+◌, ◌%◌, ◌<◌, ◌≤◌, ℕ, Bool, true, false, not, ◌&&◌, ◌||◌, ◌==◌, cond, List, [], ◌∷◌, ◌++◌, map, length, get_or, count_by, position, zero, suc, Option, Some, None, is_none, refl, sym, ap, ◌∙◌, subst, arith, if◌then◌else◌, nat_lt, nat_le, true≢false}
 use Rattle.std.specs.List.{All, position_or_len}
 use Rattle.std.proofs.lemmas.Bool.{cases_eq, and_parts, and_from, or_parts, or_left, or_right, ltb-true, ltb-false, leb-true, leb-false, eqb-true, eq-eqb, lt-ltb}
-use Rattle.std.proofs.lemmas.List.Elements.{All-nil, All-cons, All-head, All-get_or}
+use Rattle.std.proofs.lemmas.List.Elements.{All-nil, All-cons, All-head, All-tail, All-get_or}
 use Rattle.std.proofs.lemmas.List.Quantifiers.{position-Some}
 use Rattle.std.proofs.lemmas.List.Sums.{sum_by-cons, fails_before_first}
 use Rattle.gp_isa.specs.Trace.{is_local}
@@ -20,7 +20,10 @@ use Rattle.gp_journal.specs.Reached.{IsReached}
 use Rattle.gp_journal.specs.Standing.{times}
 use Rattle.gp_journal.specs.Standing.{head_of}
 use Rattle.gp_journal.proofs.Lemmas.{times-cons, one_at, live_status, is_whole, is_kept, holds_runnable, behind_parts, behind_from, active_last, Behind, some_same}
-use Rattle.gp_sim.specs.Choice.{goes_on_with, idle_action, action_of_worker, worker_action, goes_on, answers, profiler_action, with_action, actions_from, actions, chosen, number}
+use Rattle.gp_sim.specs.Choice.{goes_on_with, idle_action, action_of_worker, worker_action, goes_on, answers, profiler_action, with_action, actions_from, actions, acts_of, chosen, number}
+use Rattle.gp_sim.specs.ChoiceLaw.{MayAct}
+use Rattle.gp_sim.specs.declared.numbers.Act.{Act}
+use Rattle.gp_sim.specs.declared.numbers.Act.TheVariants.{Make, Read}
 use Rattle.gp_sim.specs.declared.numbers.Turn.{Turn}
 
 -- who stands at the head of a queue stands in it
@@ -56,24 +59,44 @@ none_first p d xs e =
     count_none p d xs (λ k within. fails_before_first p xs k d (omega arith))
 
 -- An element of a list that is chosen is one of the list.
-pub chosen_among : (P : Entry → Type 0) (settings : Settings) (taken : ℕ) (entries : List Entry) (turn : Turn) → All P entries → chosen settings taken entries ≡ Some turn → P turn.entry
+pub chosen_among : (P : Act → Type 0) (settings : Settings) (taken : ℕ) (acts : List Act) (turn : Turn) → All P acts → chosen settings taken acts ≡ Some turn → P turn.act
 chosen_among P settings taken [] turn all e = absurd (cc)
-chosen_among P settings taken (only ∷ []) turn all e = subst (λ (t : Turn). P t.entry) (turn_same e) (All-head P only [] all)
+chosen_among P settings taken (only ∷ []) turn all e = subst (λ (t : Turn). P t.act) (turn_same e) (All-head P only [] all)
   where
     turn_same : {a b : Turn} → Some a ≡ Some b → a ≡ b
     turn_same e = cc
 chosen_among P settings taken (one ∷ other ∷ more) turn all e =
     let among = one ∷ other ∷ more in
-    subst (λ (t : Turn). P t.entry) (turn_same e) (All-get_or P among (number settings taken % length among) one (omega arith) all)
+    subst (λ (t : Turn). P t.act) (turn_same e) (All-get_or P among (number settings taken % length among) one (omega arith) all)
   where
     turn_same : {a b : Turn} → Some a ≡ Some b → a ≡ b
     turn_same e = cc
 
 -- where nothing can be chosen there is nothing
-pub none_chosen : (settings : Settings) (taken : ℕ) (entries : List Entry) → chosen settings taken entries ≡ None → entries ≡ []
+pub none_chosen : (settings : Settings) (taken : ℕ) (acts : List Act) → chosen settings taken acts ≡ None → acts ≡ []
 none_chosen settings taken [] e = refl
 none_chosen settings taken (only ∷ []) e = absurd (cc)
 none_chosen settings taken (one ∷ other ∷ more) e = absurd (cc)
+
+-- and where there are no acts there are no entries
+pub none_made : (entries : List Entry) (reads : Bool) → acts_of entries reads ≡ [] → entries ≡ []
+none_made [] reads e = refl
+none_made (entry ∷ entries) reads e = absurd (cc)
+
+-- what is done is legal where each entry is
+module _ (code : Code) (settings : Settings) (s : State) where
+  made_may : (entries : List Entry) (rest : List Act) → All (May code settings s) entries → All (MayAct code settings s) rest → All (MayAct code settings s) (map Make entries ++ rest)
+  made_may [] rest all them = them
+  made_may (entry ∷ entries) rest all them =
+      All-cons (MayAct code settings s) (Make entry) (map Make entries ++ rest) (All-head (May code settings s) entry entries all) (made_may entries rest (All-tail (May code settings s) entry entries all) them)
+
+  acts_may : (entries : List Entry) (reads : Bool) → All (May code settings s) entries → All (MayAct code settings s) (acts_of entries reads)
+  acts_may [] reads all = All-nil (MayAct code settings s)
+  acts_may (entry ∷ entries) reads all = made_may (entry ∷ entries) (if reads then Read ∷ [] else []) all (reader reads)
+    where
+      reader : (reads : Bool) → All (MayAct code settings s) (if reads then Read ∷ [] else [])
+      reader true = All-cons (MayAct code settings s) Read [] tt (All-nil (MayAct code settings s))
+      reader false = All-nil (MayAct code settings s)
 
 -- the due entry by its tests
 abbrev by_tests : Bool → Bool → Bool → ℕ → ℕ → ℕ → Entry
@@ -201,6 +224,7 @@ module _ (code : Code) (settings : Settings) (s : State) where
     unfolding actions
     actions_may range = from_may 0 settings.workers (let many = (is_kept code settings s reached range).numbered.number in omega arith)
 
-    -- and so is the one that is chosen
-    pub chosen_may : AreInRange settings → (taken : ℕ) (turn : Turn) → chosen settings taken (actions code settings s) ≡ Some turn → May code settings s turn.entry
-    chosen_may range taken turn e = chosen_among (May code settings s) settings taken (actions code settings s) turn (actions_may range) e
+    -- and so is what the one that is chosen does
+    pub chosen_may : AreInRange settings → (reads : Bool) (taken : ℕ) (turn : Turn) → chosen settings taken (acts_of (actions code settings s) reads) ≡ Some turn → MayAct code settings s turn.act
+    chosen_may range reads taken turn e =
+        chosen_among (MayAct code settings s) settings taken (acts_of (actions code settings s) reads) turn (acts_may code settings s (actions code settings s) reads (actions_may range)) e

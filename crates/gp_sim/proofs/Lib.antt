@@ -1,8 +1,13 @@
 pub mod Generated
 pub mod Acting
 pub mod Places
+pub mod Actors
 pub mod Choosing
 pub mod Enabled
 pub mod Complete
 pub mod Turns
 pub mod Stepping
+pub mod Rounded
+pub mod Frames
+pub mod ReadOut
+pub mod Offers

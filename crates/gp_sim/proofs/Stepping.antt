@@ -1,12 +1,14 @@
 -- A simulation goes on by one entry.
-use Rattle.std.proofs.Common.{◌≡◌, ◌<◌, ◌≤◌, ℕ, Bool, true, List, [], ◌∷◌, ◌++◌, length, get_or, Some, refl, sym, ap, ◌∙◌, subst, arith, unwrap_or, length-set}
+use Rattle.std.proofs.Common.{◌≡◌, ◌<◌, ◌≤◌, ℕ, Bool, true, List, [], ◌∷◌, ◌++◌, length, get_or, Some, take, map, refl, sym, ap, ◌∙◌, subst, arith, unwrap_or, length-set, length-append, ◌*◌}
 use Rattle.gp_isa.specs.declared.parts.Parts.{Parts}
 use Rattle.gp_isa.specs.Checked.{main_of}
+use Rattle.gp_isa.specs.Limits.{cpu_frames}
 use Rattle.gp_isa.specs.Trace.{trace}
 use Rattle.gp_stack.specs.declared.statement.Operation.TheVariants as operation
-use Rattle.gp_stack.specs.Body.{Progress, IsAtShared}
+use Rattle.gp_stack.specs.Body.{Progress, stack_at, IsAtShared}
 use Rattle.gp_stack.specs.declared.record.Record.{Record as Row}
-use Rattle.gp_stack.specs.Goroutine.{next_point, labels_of, local_ahead}
+use Rattle.gp_stack.specs.Goroutine.{next_point, stack_of, labels_of, local_ahead}
+use Rattle.gp_stack.specs.Word.{word_of}
 use Rattle.gp_stack.specs.Peek.{operation_of}
 use Rattle.gp_stack.specs.Record.{record_of}
 use Rattle.gp_journal.specs.declared.answer.Applied.{Applied}
@@ -20,16 +22,18 @@ use Rattle.gp_journal.specs.Settings.{AreInRange}
 use Rattle.gp_journal.specs.Frozen.{row}
 use Rattle.gp_journal.specs.May.{May}
 use Rattle.gp_journal.specs.Effect.{after}
-use Rattle.gp_journal.specs.Answer.{op_answer}
+use Rattle.gp_journal.specs.Answer.{op_answer, instruction_time}
 use Rattle.gp_journal.specs.Run.{last}
+use Rattle.gp_journal.specs.NumberLaws.{most_entries}
 use Rattle.gp_journal.specs.Reached.{IsReached}
 use Rattle.gp_journal.specs.Shown.{IsPointOf}
-use Rattle.gp_journal.proofs.Lemmas.{after_all-append, behind_parts, leaves_bodies, first_bodies, stays, follows_run, op_bears, has_body, runner_live, run_ahead, op_at_shared, point_is, row_is, bodies_follow, bodies_gain, nobody_born, appended}
+use Rattle.gp_journal.proofs.Lemmas.{after_all-append, behind_parts, leaves_bodies, first_bodies, stays, follows_run, op_bears, has_body, runner_live, run_ahead, op_at_shared, point_is, row_is, bodies_follow, bodies_gain, nobody_born, appended, entries_are_bounded}
 use Rattle.gp_journal.specs.Bodies.{nowhere, standing, AreBodiesOf, further, moved_on, followed, gained}
 use Rattle.gp_machine.specs.declared.at_point.AtPoint.{AtPoint}
 use Rattle.gp_machine.specs.declared.at_point.AtPoint.TheVariants.{Bears}
 use Rattle.gp_machine.specs.AtPoint.{at_point}
 use Rattle.gp_history.specs.History.{IsPlain}
+use Rattle.gp_cpu.specs.Samples.{sample_of}
 use Rattle.gp_sim.specs.kept.Bodies.{gone_on, joined}
 use Rattle.gp_sim.specs.kept.Simulation.{IsSimulation, IsQuiet, BearsNobody}
 
@@ -37,7 +41,7 @@ pub quiet_stays : (entry : Entry) → IsQuiet entry → leaves_bodies entry ≡ 
 quiet_stays (Start w g) quiet = refl
 quiet_stays (Run w g n) quiet = absurd quiet
 quiet_stays (Op w g) quiet = absurd quiet
-quiet_stays (Tick w g) quiet = refl
+quiet_stays (Tick w g) quiet = absurd quiet
 quiet_stays (Park w g) quiet = refl
 quiet_stays (Open epoch room) quiet = absurd quiet
 quiet_stays (Refuse room n) quiet = refl
@@ -48,7 +52,7 @@ pub quiet_plain : (entry : Entry) → IsQuiet entry → IsPlain entry
 quiet_plain (Start w g) quiet = tt
 quiet_plain (Run w g n) quiet = tt
 quiet_plain (Op w g) quiet = quiet
-quiet_plain (Tick w g) quiet = tt
+quiet_plain (Tick w g) quiet = absurd quiet
 quiet_plain (Park w g) quiet = tt
 quiet_plain (Open epoch room) quiet = quiet
 quiet_plain (Refuse room n) quiet = tt
@@ -126,6 +130,22 @@ module _ (program : Parts) (settings : Settings) (journal : List Entry) (bodies 
 
   pub recorded_row : (actor g : ℕ) (copy : Row) → May (code_of program) settings now (Record actor g) → copy ≡ record_of program g (get_or bodies g nowhere) → copy ≡ row (code_of program) g (goroutine now g)
   recorded_row actor g copy may e = row_is program settings now here it.in_range bodies it.its_bodies g copy ((behind_parts now.active (goroutine now g) may.unrecorded).0) e
+
+  -- what a body tells of its goroutine is the sample
+  pub sample_is : (w g time tag : ℕ) (stack : List ℕ) → (worker now w).runs ≡ Some g → time ≡ instruction_time * now.clock →
+      tag ≡ labels_of (trace program (get_or bodies g nowhere).start) (get_or bodies g nowhere).set (get_or bodies g nowhere).count → stack ≡ map word_of (take cpu_frames (stack_at program (get_or bodies g nowhere))) →
+      record { time = time; tag = tag; header = 1 ∷ []; stack = stack } ≡ sample_of (code_of program) now (goroutine now g)
+  sample_is w g time tag stack runs at_time labels words =
+      let stands = runner_stands w g runs in
+      let tag_is : tag ≡ labels_of (trace program (goroutine now g).start) (goroutine now g).set (goroutine now g).count = labels ∙ ap (λ (p : Progress). labels_of (trace program p.start) p.set p.count) stands in
+      let stack_is : stack ≡ map word_of (take cpu_frames (stack_of (trace program (goroutine now g).start) (goroutine now g).count)) = words ∙ ap (λ (p : Progress). map word_of (take cpu_frames (stack_at program p))) stands in
+      λ i. record { time = at_time i; tag = tag_is i; header = 1 ∷ []; stack = stack_is i }
+
+  -- there is room for an entry that may come
+  pub entry_fits : (made : Entry) → May (code_of program) settings now made → length journal < most_entries settings
+  entry_fits made may =
+      let few = entries_are_bounded (code_of program) settings (journal ++ made ∷ []) it.in_range (appended (code_of program) settings (first (code_of program) settings) journal made it.legal may) in
+      omega (arith, length-append journal (made ∷ []))
 
   pub ran : (w g n : ℕ) → May (code_of program) settings now (Run w g n) → IsSimulation (code_of program) settings (journal ++ Run w g n ∷ []) (moved_on bodies g n)
   ran w g n may = by_entry (code_of program) settings journal bodies it (Run w g n) (moved_on bodies g n) may (follows_run (code_of program) settings now w g n bodies it.its_bodies)

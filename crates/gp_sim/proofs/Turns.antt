@@ -1,148 +1,265 @@
--- The choice's journal, turn by turn.
-use Rattle.std.proofs.Common.{◌≡◌, Bool, true, false, true≢false, ◌+◌, ◌-◌, ◌<◌, ◌≤◌, ℕ, zero, suc, List, [], ◌∷◌, ◌++◌, length, Option, Some, None, refl, sym, ap, ◌∙◌, subst, arith, length-append}
-use Rattle.std.proofs.lemmas.List.{append_assoc, append-nil}
+-- The choice's run, turn by turn.
+use Rattle.std.proofs.Common.{◌≡◌, Bool, true, false, true≢false, ◌+◌, ◌-◌, ◌*◌, ◌<◌, ◌≤◌, ℕ, zero, suc, List, [], ◌∷◌, ◌++◌, map, length, drop, Option, Some, None, is_some, refl, sym, ap, ◌∙◌, subst, arith, length-append, length-drop}
+use Rattle.std.specs.List.{All}
+use Rattle.std.proofs.lemmas.List.Elements.{All-nil, All-cons}
+use Rattle.gp_isa.specs.declared.parts.Parts.{Parts}
 use Rattle.gp_journal.specs.declared.entry.Entry.{Entry}
 use Rattle.gp_journal.specs.declared.settings.Settings.{Settings}
 use Rattle.gp_journal.specs.Settings.{AreInRange}
-use Rattle.gp_journal.specs.State.{Code, State, first}
-use Rattle.gp_journal.specs.May.{May}
-use Rattle.gp_journal.specs.Effect.{after}
+use Rattle.gp_journal.specs.State.{Code, code_of, first}
 use Rattle.gp_journal.specs.Run.{IsLegal, last, IsFinished}
 use Rattle.gp_journal.specs.NumberLaws.{most_entries}
 use Rattle.gp_journal.specs.Reached.{IsReached}
-use Rattle.gp_journal.proofs.Lemmas.{after_all-append, entries_are_bounded, appended}
-use Rattle.gp_sim.specs.Choice.{actions, chosen, entries_of, entries_from, sim_journal}
+use Rattle.gp_journal.proofs.Lemmas.{entries_are_bounded, appended}
+use Rattle.gp_ring.specs.Records.{Offer, RingRecord, Sample, Loss, Covers}
+use Rattle.gp_ring.specs.PlainRing.{has_more, looked, records_taken, unread_records, pending_records, closed}
+use Rattle.gp_cpu.specs.Samples.{samples_of_journal}
+use Rattle.gp_sim.specs.Choice.{SoFar, begun, actions, acts_of, chosen, next_turn, after_act, after_turn, after_turns, behind_turn, most_turns, sim_run, sim_journal, sim_records, taken_to_end, ring_len, ring_tags}
+use Rattle.gp_sim.specs.declared.numbers.Act.{Act}
+use Rattle.gp_sim.specs.declared.numbers.Act.TheVariants.{Make, Read}
 use Rattle.gp_sim.specs.declared.numbers.Turn.{Turn}
-use Rattle.gp_sim.specs.ChoiceLaw.{SimIsFinished}
-use Rattle.gp_sim.specs.kept.Simulation.{SoFar, TakesTurn}
+use Rattle.gp_sim.specs.ChoiceLaw.{MayAct, BeginWithHead, SimIsFinished, SimIsCovered, SimBeginsWithHead}
+use Rattle.gp_sim.specs.kept.Simulation.{TakesTurn, KeepsRing, after_turn_if}
 use Rattle.gp_sim.specs.kept.Turns.{IsPartOfSim}
-use Rattle.gp_sim.proofs.Enabled.{chosen_may}
+use Rattle.gp_sim.proofs.Enabled.{chosen_may, chosen_among}
 use Rattle.gp_sim.proofs.Complete.{none_turns}
+use Rattle.gp_sim.proofs.Offers.{begun_keeps, entry_keeps, read_keeps, readable, samples_number}
+use Rattle.gp_sim.proofs.ReadOut.{more_takes, read_out}
 
 -- A turn takes at most one number.
-takes_one : (settings : Settings) (taken : ℕ) (entries : List Entry) (turn : Turn) → chosen settings taken entries ≡ Some turn → turn.taken ≤ taken + 1
+takes_one : (settings : Settings) (taken : ℕ) (acts : List Act) (turn : Turn) → chosen settings taken acts ≡ Some turn → turn.taken ≤ taken + 1
 takes_one settings taken [] turn e = absurd (cc)
 takes_one settings taken (only ∷ []) turn e = let same : taken ≡ turn.taken = cc in omega arith
 takes_one settings taken (one ∷ other ∷ more) turn e = let same : taken + 1 ≡ turn.taken = cc in omega arith
 
--- where none is chosen no entries come
-none_come : (code : Code) (settings : Settings) (n : ℕ) (s : State) (taken : ℕ) → chosen settings taken (actions code settings s) ≡ None → entries_from code settings n s taken ≡ []
-none_come code settings zero s taken e = refl
-none_come code settings (suc n) s taken e = ap (λ o. entries_of o (λ turn. entries_from code settings n (after code settings s turn.entry) turn.taken)) e
+-- The reader acts only where it has something to read.
+abbrev ReadsMore : Bool → Act → Type 0
+ReadsMore reads (Make entry) = Unit {0}
+ReadsMore reads Read = reads ≡ true
 
--- where one is, its entry comes first
-one_comes : (code : Code) (settings : Settings) (n m : ℕ) (s : State) (taken : ℕ) (turn : Turn) → n ≡ suc m → chosen settings taken (actions code settings s) ≡ Some turn →
-    entries_from code settings n s taken ≡ turn.entry ∷ entries_from code settings m (after code settings s turn.entry) turn.taken
-one_comes code settings n m s taken turn left e =
-    ap (λ k. entries_from code settings k s taken) left
-    ∙ ap (λ o. entries_of o (λ t. entries_from code settings m (after code settings s t.entry) t.taken)) e
+made_all : (reads : Bool) (entries : List Entry) (rest : List Act) → All (ReadsMore reads) rest → All (ReadsMore reads) (map Make entries ++ rest)
+made_all reads [] rest all = all
+made_all reads (entry ∷ entries) rest all = All-cons (ReadsMore reads) (Make entry) (map Make entries ++ rest) tt (made_all reads entries rest all)
 
--- It begins with no entry.
-pub begins : (code : Code) (settings : Settings) → IsPartOfSim code settings [] 0
-unfolding sim_journal
-begins code settings = record {
-  legal = tt;
-  taken_bound = omega arith;
-  length_bound = omega arith;
-  continues = let all : most_entries settings ≡ most_entries settings - 0 = omega arith in ap (λ n. entries_from code settings n (first code settings) 0) all;
-}
+acts_read : (reads : Bool) (entries : List Entry) → All (ReadsMore reads) (acts_of entries reads)
+acts_read reads [] = All-nil (ReadsMore reads)
+acts_read true (entry ∷ entries) = made_all true (entry ∷ entries) (Read ∷ []) (All-cons (ReadsMore true) Read [] refl (All-nil (ReadsMore true)))
+acts_read false (entry ∷ entries) = made_all false (entry ∷ entries) [] (All-nil (ReadsMore false))
 
-module _ (code : Code) (settings : Settings) (journal : List Entry) (taken : ℕ) (range : AreInRange settings) (part : IsPartOfSim code settings journal taken) where
-  reached : IsReached code settings (last code settings journal)
-  reached = record { journal = journal; legal = part.legal; its_last = refl }
+-- Records that cover offers are no more than these.
+pub covers_few : (records : List RingRecord) (offers : List Offer) → Covers records offers → length records ≤ length offers
+covers_few [] offers covers = omega arith
+covers_few (Sample sample ∷ records) [] covers = absurd covers
+covers_few (Sample sample ∷ records) (offer ∷ offers) covers = let rest = covers_few records offers covers.1 in omega arith
+covers_few (Loss count time ∷ records) offers covers =
+    let some = covers.0 in
+    let within = covers.1 in
+    let rest = covers_few records (drop count offers) covers.3 in
+    let left = length-drop count offers in omega arith
 
-  module _ (turn : Turn) (e : chosen settings taken (actions code settings (last code settings journal)) ≡ Some turn) where
-    -- the entry of a turn is legal
-    pub turn_may : May code settings (last code settings journal) turn.entry
-    turn_may = chosen_may code settings (last code settings journal) reached range taken turn e
+front_few : (a b c : List RingRecord) → length a ≤ length (a ++ b ++ c)
+front_few a b c = omega (arith, length-append (a ++ b) c, length-append a b)
 
-    longer : IsLegal code settings (journal ++ turn.entry ∷ [])
-    longer = appended code settings (first code settings) journal turn.entry part.legal turn_may
+-- where none is chosen the run is as it was
+none_come : (code : Code) (settings : Settings) (n : ℕ) (run : SoFar) → next_turn code settings run ≡ None → after_turns code settings n run ≡ run
+none_come code settings zero run e = refl
+none_come code settings (suc n) run e = ap (λ o. behind_turn run o (λ turn. after_turns code settings n (after_turn code settings run turn))) e
 
-    -- so there is room for it
-    turn_fits : length journal < most_entries settings
-    turn_fits = let few = entries_are_bounded code settings (journal ++ turn.entry ∷ []) range longer in omega (arith, length-append journal (turn.entry ∷ []))
+-- where one is, it comes first
+one_comes : (code : Code) (settings : Settings) (n m : ℕ) (run : SoFar) (turn : Turn) → n ≡ suc m → next_turn code settings run ≡ Some turn →
+    after_turns code settings n run ≡ after_turns code settings m (after_turn code settings run turn)
+one_comes code settings n m run turn left e =
+    ap (λ k. after_turns code settings k run) left ∙ ap (λ o. behind_turn run o (λ t. after_turns code settings m (after_turn code settings run t))) e
 
-    turns_left : most_entries settings - length journal ≡ suc (most_entries settings - length (journal ++ turn.entry ∷ []))
-    turns_left = let fits = turn_fits in omega (arith, length-append journal (turn.entry ∷ []))
+module _ (program : Parts) (settings : Settings) (range : AreInRange settings) where
+  -- It begins with no entry.
+  pub begins : IsPartOfSim program settings 0 (begun program settings)
+  unfolding sim_run
+  begins = record {
+    legal = tt;
+    ring = begun_keeps program settings range;
+    taken_bound = omega arith;
+    turns_bound = omega arith;
+    entries_bound = omega arith;
+    continues = let all : most_turns settings ≡ most_turns settings - 0 = omega arith in ap (λ n. after_turns (code_of program) settings n (begun program settings)) all;
+  }
 
-    -- It goes on by the entry of a turn.
-    pub goes_on : IsPartOfSim code settings (journal ++ turn.entry ∷ []) turn.taken
-    goes_on =
-        let s = last code settings journal in
-        let left = most_entries settings - length (journal ++ turn.entry ∷ []) in
+  -- The turns are fewer than the most.
+  pub turns_few : (turns : ℕ) (run : SoFar) → IsPartOfSim program settings turns run → turns < most_turns settings
+  turns_few turns run part =
+      let follows = part.ring.follows in
+      let taken = covers_few (run.records ++ unread_records run.ring ++ pending_records run.ring) (samples_of_journal (code_of program) settings run.journal) follows.covered in
+      let number = samples_number program settings run.journal in
+      let entries = entries_are_bounded (code_of program) settings run.journal range part.legal in
+      let bound = part.turns_bound in
+      let front = front_few run.records (unread_records run.ring) (pending_records run.ring) in
+      omega arith
+
+  module _ (turns : ℕ) (run : SoFar) (part : IsPartOfSim program settings turns run) where
+    reached : IsReached (code_of program) settings (last (code_of program) settings run.journal)
+    reached = record { journal = run.journal; legal = part.legal; its_last = refl }
+
+    abbrev turn_is : Turn → Type 0
+    turn_is turn = next_turn (code_of program) settings run ≡ Some turn
+
+    -- what a turn does may be done
+    pub turn_may : (turn : Turn) → turn_is turn → MayAct (code_of program) settings (last (code_of program) settings run.journal) turn.act
+    turn_may turn e = chosen_may (code_of program) settings (last (code_of program) settings run.journal) reached range (has_more run.ring) run.taken turn e
+
+    turn_reads : (turn : Turn) → turn_is turn → ReadsMore (has_more run.ring) turn.act
+    turn_reads turn e =
+        chosen_among (ReadsMore (has_more run.ring)) settings run.taken (acts_of (actions (code_of program) settings (last (code_of program) settings run.journal)) (has_more run.ring)) turn
+        (acts_read (has_more run.ring) (actions (code_of program) settings (last (code_of program) settings run.journal))) e
+
+    -- what an act leaves
+    record Leaves (next : SoFar) : Type 0 where
+      legal : IsLegal (code_of program) settings next.journal
+      ring : KeepsRing program settings next
+      more : length run.journal + length run.records + 1 ≤ length next.journal + length next.records
+      one : length next.journal ≤ length run.journal + 1
+
+    leaves : (act : Act) (taken : ℕ) → MayAct (code_of program) settings (last (code_of program) settings run.journal) act → ReadsMore (has_more run.ring) act →
+        Leaves (record (after_act (code_of program) settings run act) { taken = taken })
+    leaves (Make entry) taken may reads =
+        let keeps = entry_keeps program settings range run part.ring entry in
         record {
-          legal = longer;
-          taken_bound =
-              let one = takes_one settings taken (actions code settings s) turn e in
-              let few = part.taken_bound in
-              omega (arith, length-append journal (turn.entry ∷ []));
-          length_bound = entries_are_bounded code settings (journal ++ turn.entry ∷ []) range longer;
-          continues =
-              part.continues
-              ∙ ap (λ entries. journal ++ entries) (one_comes code settings (most_entries settings - length journal) left s taken turn turns_left e)
-              ∙ sym (append_assoc journal (turn.entry ∷ []) (entries_from code settings left (after code settings s turn.entry) turn.taken))
-              ∙ ap (λ t. (journal ++ turn.entry ∷ []) ++ entries_from code settings left t turn.taken) (sym (after_all-append code settings (first code settings) journal (turn.entry ∷ [])));
+          legal = appended (code_of program) settings (first (code_of program) settings) run.journal entry part.legal may;
+          ring = record { header = keeps.header; words = keeps.words; tags = keeps.tags; is_open = keeps.is_open; follows = keeps.follows; whole = keeps.whole };
+          more = omega (arith, length-append run.journal (entry ∷ []));
+          one = omega (arith, length-append run.journal (entry ∷ []));
+        }
+    leaves Read taken may reads =
+        let keeps = read_keeps program settings range run part.ring in
+        let some = more_takes run.ring (readable program settings range run part.ring) reads in
+        record {
+          legal = part.legal;
+          ring = record { header = keeps.header; words = keeps.words; tags = keeps.tags; is_open = keeps.is_open; follows = keeps.follows; whole = keeps.whole };
+          more = omega (arith, length-append run.records (records_taken (looked run.ring)));
+          one = omega arith;
         }
 
-  -- It ends where none is chosen, and is finished then.
-  pub ends : chosen settings taken (actions code settings (last code settings journal)) ≡ None → (sim_journal code settings ≡ journal) × IsFinished code settings journal
-  ends e = (
-    part.continues
-        ∙ ap (λ entries. journal ++ entries) (none_come code settings (most_entries settings - length journal) (last code settings journal) taken e)
-        ∙ append-nil journal,
-    record { legal = part.legal; complete = none_turns code settings (last code settings journal) reached range taken e },
-  )
+    -- It goes on by a turn.
+    pub goes_on : (turn : Turn) → turn_is turn → IsPartOfSim program settings (turns + 1) (after_turn (code_of program) settings run turn)
+    goes_on turn e =
+        let left = leaves turn.act turn.taken (turn_may turn e) (turn_reads turn e) in
+        let few = turns_few turns run part in
+        let bound = part.turns_bound in
+        let more = left.more in
+        let one = left.one in
+        record {
+          legal = left.legal;
+          ring = left.ring;
+          taken_bound =
+              let one = takes_one settings run.taken (acts_of (actions (code_of program) settings (last (code_of program) settings run.journal)) (has_more run.ring)) turn e in
+              let before = part.taken_bound in omega arith;
+          turns_bound = omega arith;
+          entries_bound = let before = part.entries_bound in omega arith;
+          continues = part.continues ∙ one_comes (code_of program) settings (most_turns settings - turns) (most_turns settings - (turns + 1)) run turn (omega arith) e;
+        }
 
-  finished_by : (o : Option Turn) → chosen settings taken (actions code settings (last code settings journal)) ≡ o →
-      ((turn : Turn) → chosen settings taken (actions code settings (last code settings journal)) ≡ Some turn → IsFinished code settings (sim_journal code settings)) → IsFinished code settings (sim_journal code settings)
-  finished_by None e later = let done = ends e in subst (IsFinished code settings) (sym done.0) done.1
-  finished_by (Some turn) e later = later turn e
+    -- It ends where none is chosen, and is finished then.
+    pub ends : next_turn (code_of program) settings run ≡ None → (sim_run program settings ≡ run) × IsFinished (code_of program) settings run.journal
+    ends e = (
+      part.continues ∙ none_come (code_of program) settings (most_turns settings - turns) run e,
+      record { legal = part.legal; complete = none_turns (code_of program) settings (last (code_of program) settings run.journal) reached range (has_more run.ring) run.taken e },
+    )
 
--- What a turn of a simulation that makes an entry leaves.
-pub record GoesOn (code : Code) (settings : Settings) (before now : SoFar) : Type 0 where
-  pub part : IsPartOfSim code settings now.journal now.taken
-  pub longer : length now.journal ≡ length before.journal + 1
-  pub within : length before.journal < most_entries settings
+  -- It comes to its end within the turns that are left.
+  record IsWhole (turns : ℕ) (run : SoFar) : Type 0 where
+    pub part : IsPartOfSim program settings turns run
+    pub none : next_turn (code_of program) settings run ≡ None
 
--- and one that makes none
-pub record IsAtEnd (code : Code) (settings : Settings) (before now : SoFar) : Type 0 where
-  pub same : now ≡ before
-  pub all : sim_journal code settings ≡ before.journal
-  pub finished : IsFinished code settings before.journal
+  abbrev HasEnd : Type 0
+  HasEnd = (turns : ℕ) × (run : SoFar) × IsWhole turns run
 
-module _ (code : Code) (settings : Settings) (before now : SoFar) (made : Bool) (range : AreInRange settings) (part : IsPartOfSim code settings before.journal before.taken)
-    (takes : TakesTurn (chosen settings before.taken (actions code settings (last code settings before.journal))) made before now) where
-  pub took_turn : made ≡ true → GoesOn code settings before now
-  took_turn yes_made = by (chosen settings before.taken (actions code settings (last code settings before.journal))) refl takes
+  ended_by : (turns : ℕ) (run : SoFar) → IsPartOfSim program settings turns run → (o : Option Turn) → next_turn (code_of program) settings run ≡ o →
+      ((turn : Turn) → next_turn (code_of program) settings run ≡ Some turn → HasEnd) → HasEnd
+  ended_by turns run part None e later = (turns, run, record { part = part; none = e })
+  ended_by turns run part (Some turn) e later = later turn e
+
+  comes_to_end : (n turns : ℕ) (run : SoFar) → IsPartOfSim program settings turns run → most_turns settings ≤ turns + n → HasEnd
+  comes_to_end zero turns run part enough = let few = turns_few turns run part in absurd (omega arith)
+  comes_to_end (suc n) turns run part enough =
+      ended_by turns run part (next_turn (code_of program) settings run) refl
+      (λ turn e. comes_to_end n (turns + 1) (after_turn (code_of program) settings run turn) (goes_on turns run part turn e) (omega arith))
+
+  -- what holds of the run at its end holds of the choice's
+  at_end : (P : SoFar → Type 0) → ((turns : ℕ) (run : SoFar) → IsWhole turns run → P run) → P (sim_run program settings)
+  at_end P holds = by (comes_to_end (most_turns settings) 0 (begun program settings) begins (omega arith))
     where
-      by : (o : Option Turn) → chosen settings before.taken (actions code settings (last code settings before.journal)) ≡ o → TakesTurn o made before now → GoesOn code settings before now
-      by None e took = absurd (true≢false (sym yes_made ∙ took.told))
-      by (Some turn) e took = rw took.after (record {
-        part = goes_on code settings before.journal before.taken range part turn e;
-        longer = length-append before.journal (turn.entry ∷ []);
-        within = turn_fits code settings before.journal before.taken range part turn e;
-      })
-
-  pub took_none : made ≡ false → IsAtEnd code settings before now
-  took_none none_made = by (chosen settings before.taken (actions code settings (last code settings before.journal))) refl takes
-    where
-      by : (o : Option Turn) → chosen settings before.taken (actions code settings (last code settings before.journal)) ≡ o → TakesTurn o made before now → IsAtEnd code settings before now
-      by None e took =
-          let done = ends code settings before.journal before.taken range part e in
-          record { same = took.after; all = done.0; finished = done.1 }
-      by (Some turn) e took = absurd (true≢false (sym took.told ∙ none_made))
-
--- It ends within the turns that are left.
-finishes : (code : Code) (settings : Settings) (n : ℕ) (journal : List Entry) (taken : ℕ) → AreInRange settings → IsPartOfSim code settings journal taken → most_entries settings ≤ length journal + n →
-    IsFinished code settings (sim_journal code settings)
-finishes code settings zero journal taken range part enough =
-    finished_by code settings journal taken range part (chosen settings taken (actions code settings (last code settings journal))) refl
-    (λ turn e. let fits = turn_fits code settings journal taken range part turn e in absurd (omega arith))
-finishes code settings (suc n) journal taken range part enough =
-    finished_by code settings journal taken range part (chosen settings taken (actions code settings (last code settings journal))) refl
-    (λ turn e. finishes code settings n (journal ++ turn.entry ∷ []) turn.taken range (goes_on code settings journal taken range part turn e) (omega (arith, length-append journal (turn.entry ∷ []))))
+      by : HasEnd → P (sim_run program settings)
+      by (turns, run, whole) = subst P (sym (ends turns run whole.part whole.none).0) (holds turns run whole)
 
 -- The choice's journal is finished.
 pub sim_is_finished : SimIsFinished
-sim_is_finished code settings range = finishes code settings (most_entries settings) [] 0 range (begins code settings) (omega arith)
+sim_is_finished program settings range =
+    at_end program settings range (λ run. IsFinished (code_of program) settings run.journal) (λ turns run whole. (ends program settings range turns run whole.part whole.none).1)
+
+pub record AllRead (program : Parts) (settings : Settings) (journal : List Entry) (records : List RingRecord) : Type 0 where
+  pub covered : Covers records (samples_of_journal (code_of program) settings journal)
+  pub begins : BeginWithHead program settings journal records
+
+-- what a run has read once its ring is read to its end
+pub read_whole : (program : Parts) (settings : Settings) → AreInRange settings → (turns : ℕ) (run : SoFar) → IsPartOfSim program settings turns run →
+    AllRead program settings run.journal (run.records ++ taken_to_end 3 (closed run.ring))
+read_whole program settings range turns run part =
+    let all = read_out (ring_len program settings) (ring_tags settings) (samples_of_journal (code_of program) settings run.journal) run.records run.ring part.ring.follows
+    (readable program settings range run part.ring) part.ring.words part.ring.tags in
+    record { covered = all.covered; begins = all.begins }
+
+-- the entries and the turns of a run, those to the end of its ring too
+pub entries_at_end : (program : Parts) (settings : Settings) → AreInRange settings → (turns : ℕ) (run : SoFar) → IsPartOfSim program settings turns run → length run.journal ≤ most_entries settings
+entries_at_end program settings range turns run part = entries_are_bounded (code_of program) settings run.journal range part.legal
+
+pub turns_at_end : (program : Parts) (settings : Settings) → AreInRange settings → (turns : ℕ) (run : SoFar) → IsPartOfSim program settings turns run →
+    turns + length (taken_to_end 3 (closed run.ring)) + 1 ≤ 2 * most_entries settings + 2
+turns_at_end program settings range turns run part =
+    let all = read_whole program settings range turns run part in
+    let taken = covers_few (run.records ++ taken_to_end 3 (closed run.ring)) (samples_of_journal (code_of program) settings run.journal) all.covered in
+    let number = samples_number program settings run.journal in
+    let entries = entries_are_bounded (code_of program) settings run.journal range part.legal in
+    let bound = part.turns_bound in
+    omega (arith, length-append run.records (taken_to_end 3 (closed run.ring)))
+
+sim_all_read : (program : Parts) (settings : Settings) → AreInRange settings → AllRead program settings (sim_journal program settings) (sim_records program settings)
+sim_all_read program settings range =
+    at_end program settings range (λ run. AllRead program settings run.journal (run.records ++ taken_to_end 3 (closed run.ring))) (λ turns run whole. read_whole program settings range turns run whole.part)
+
+pub sim_is_covered : SimIsCovered
+sim_is_covered program settings range = (sim_all_read program settings range).covered
+
+pub sim_begins_with_head : SimBeginsWithHead
+sim_begins_with_head program settings range = (sim_all_read program settings range).begins
+
+-- ---- a turn of a simulation
+
+-- one that there is
+pub record WentOn (program : Parts) (settings : Settings) (turns : ℕ) (now : SoFar) : Type 0 where
+  pub part : IsPartOfSim program settings (turns + 1) now
+  pub few : turns < most_turns settings
+
+-- and none
+pub record IsAtEnd (program : Parts) (settings : Settings) (before now : SoFar) : Type 0 where
+  pub same : now ≡ before
+  pub all : sim_run program settings ≡ before
+  pub finished : IsFinished (code_of program) settings before.journal
+
+module _ (program : Parts) (settings : Settings) (turns : ℕ) (before now : SoFar) (made : Bool) (range : AreInRange settings) (part : IsPartOfSim program settings turns before) (takes : TakesTurn (code_of program) settings made before now) where
+  pub took_turn : made ≡ true → WentOn program settings turns now
+  took_turn yes_made = by (next_turn (code_of program) settings before) refl takes.told takes.after
+    where
+      by : (o : Option Turn) → next_turn (code_of program) settings before ≡ o → made ≡ is_some o → now ≡ after_turn_if (code_of program) settings before o → WentOn program settings turns now
+      by None e told after = absurd (true≢false (sym yes_made ∙ told))
+      by (Some turn) e told after = record {
+        part = subst (IsPartOfSim program settings (turns + 1)) (sym after) (goes_on program settings range turns before part turn e);
+        few = turns_few program settings range turns before part;
+      }
+
+  pub took_none : made ≡ false → IsAtEnd program settings before now
+  took_none none_made = by (next_turn (code_of program) settings before) refl takes.told takes.after
+    where
+      by : (o : Option Turn) → next_turn (code_of program) settings before ≡ o → made ≡ is_some o → now ≡ after_turn_if (code_of program) settings before o → IsAtEnd program settings before now
+      by None e told after =
+          let done = ends program settings range turns before part e in
+          record { same = after; all = done.0; finished = done.1 }
+      by (Some turn) e told after = absurd (true≢false (sym told ∙ none_made))

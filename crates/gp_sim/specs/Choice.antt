@@ -1,17 +1,28 @@
 -- The choice by numbers: in each turn one of the actors that can act does, and which one is told by the next number.
-use Rattle.std.specs.Prelude.{◌+◌, ◌-◌, ◌%◌, ℕ, zero, suc, ◌&&◌, ◌||◌, ◌==◌, List, [], ◌∷◌, length, get_or, if◌then◌else◌, nat_lt, nat_le, Option, Some, None}
+use Rattle.std.specs.Prelude.{◌+◌, ◌-◌, ◌*◌, ◌%◌, ℕ, zero, suc, Bool, true, false, ◌&&◌, ◌||◌, ◌==◌, List, [], ◌∷◌, ◌++◌, length, get_or, map, max, min, if◌then◌else◌, nat_lt, nat_le, Option, Some, None}
 use Rattle.rand_pcg.specs.Lcg.{Lcg, started, advance, increment_of}
 use Rattle.rand_pcg.specs.Pcg.{multiplier_64, output_xsh_rr}
+use Rattle.gp_isa.specs.declared.parts.Parts.{Parts}
+use Rattle.gp_isa.specs.Limits.{cpu_frames}
+use Rattle.gp_isa.specs.Size.{depth_of}
 use Rattle.gp_journal.specs.declared.entry.Entry.{Entry}
 use Rattle.gp_journal.specs.declared.entry.Entry.TheVariants.{Start, Open, Refuse, Record, Close}
 use Rattle.gp_journal.specs.declared.settings.Settings.{Settings}
-use Rattle.gp_sim.specs.declared.numbers.Turn.{Turn}
-use Rattle.gp_journal.specs.State.{Code, State, goroutine, worker, is_behind, live, running, first}
+use Rattle.gp_journal.specs.State.{Code, State, code_of, goroutine, worker, is_behind, live, running}
 use Rattle.gp_journal.specs.Due.{asked, over, due}
-use Rattle.gp_journal.specs.Effect.{after}
+use Rattle.gp_journal.specs.Run.{last}
 use Rattle.gp_journal.specs.Standing.{first_behind}
 use Rattle.gp_journal.specs.Standing.{head_of}
 use Rattle.gp_journal.specs.NumberLaws.{most_entries}
+use Rattle.gp_layout.specs.Spelling.{size_of}
+use Rattle.gp_ring.specs.Records.{Offer, RingRecord}
+use Rattle.gp_ring.specs.PlainRing.{PlainRing, Found, End, empty_ring, written, closed, looked, acted, records_taken, has_more}
+use Rattle.gp_cpu.specs.Samples.{rate_record, sampled_at}
+use Rattle.gp_sim.specs.declared.numbers.Act.{Act}
+use Rattle.gp_sim.specs.declared.numbers.Act.TheVariants.{Make, Read}
+use Rattle.gp_sim.specs.declared.numbers.Turn.{Turn}
+
+-- ---- the entries of workers and profiler
 
 -- An idle worker goes on with the head of the queue: it records it where that has still to be done, else it starts it.
 abbrev pub goes_on_with : State → ℕ → Option ℕ → Option Entry
@@ -59,9 +70,11 @@ abbrev pub actions_from : Code → Settings → State → ℕ → ℕ → List E
 actions_from code settings state w zero = with_action (profiler_action settings state) []
 actions_from code settings state w (suc n) = with_action (worker_action code settings state w) (actions_from code settings state (suc w) n)
 
--- What the actors that can act would do, in the order of the actors.
+-- What the workers and the profiler that can act would do, in their order.
 unfoldable pub actions : Code → Settings → State → List Entry
 actions code settings state = actions_from code settings state 0 settings.workers
+
+-- ---- the numbers
 
 -- the generator that numbers are taken from behind the picks
 abbrev pub seeded : Settings → Lcg
@@ -73,27 +86,126 @@ number settings k =
     if nat_lt k (length settings.picks) then get_or settings.picks k 0
     else output_xsh_rr (advance 64 multiplier_64 (k - length settings.picks) (seeded settings)).state
 
--- A turn is the entry that it makes, with how many numbers were taken once it is made.
--- One of some actions: where there is but one, that one, and no number is taken; else the next number modulo how many
+-- A turn is what is done in it, with how many numbers were taken once it is done.
+-- One of some acts: where there is but one, that one, and no number is taken; else the next number modulo how many
 -- there are is its place among them.
-abbrev pub chosen : Settings → ℕ → List Entry → Option Turn
+abbrev pub chosen : Settings → ℕ → List Act → Option Turn
 chosen settings taken [] = None
-chosen settings taken (only ∷ []) = Some (record { entry = only; taken = taken })
+chosen settings taken (only ∷ []) = Some (record { act = only; taken = taken })
 chosen settings taken (one ∷ other ∷ more) =
-    let among = one ∷ other ∷ more in Some (record { entry = get_or among (number settings taken % length among) one; taken = taken + 1 })
+    let among = one ∷ other ∷ more in Some (record { act = get_or among (number settings taken % length among) one; taken = taken + 1 })
 
--- a turn's entry, and what comes behind it, where there is a turn
-abbrev pub entries_of : Option Turn → (Turn → List Entry) → List Entry
-entries_of None behind = []
-entries_of (Some turn) behind = turn.entry ∷ behind turn
+-- ---- the ring
 
--- the entries of so many turns, from a state on, as long as some actor can act
-abbrev pub entries_from : Code → Settings → ℕ → State → ℕ → List Entry
-entries_from code settings zero state taken = []
-entries_from code settings (suc turns) state taken =
-    entries_of (chosen settings taken (actions code settings state))
-    (λ turn. entries_from code settings turns (after code settings state turn.entry) turn.taken)
+-- the least power of two that is n or more: of a power of two and so many doublings of it
+abbrev pub rounded_from : ℕ → ℕ → ℕ → ℕ
+rounded_from zero power n = power
+rounded_from (suc doublings) power n = if nat_le n power then power else rounded_from doublings (2 * power) n
 
--- The journal that the choice gives. A legal journal has no more entries than there are turns here.
-unfoldable pub sim_journal : Code → Settings → List Entry
-sim_journal code settings = entries_from code settings (most_entries settings) (first code settings) 0
+-- of all up to 2^32
+abbrev pub rounded : ℕ → ℕ
+rounded n = rounded_from 32 1 n
+
+-- The words that a run's ring is to have: those of the option, and no fewer than twice those of its longest sample.
+abbrev pub ring_words : Parts → Settings → ℕ
+ring_words program settings = max settings.ring (2 * size_of 1 (min cpu_frames (depth_of program)))
+
+-- Its words and its tags are powers of two.
+abbrev pub ring_len : Parts → Settings → ℕ
+ring_len program settings = rounded (ring_words program settings)
+
+abbrev pub ring_tags : Settings → ℕ
+ring_tags settings = rounded settings.tags
+
+-- As a run begins the rate record is offered to its empty ring.
+abbrev pub begun_ring : Parts → Settings → PlainRing
+begun_ring program settings = written (empty_ring 1 (ring_len program settings) (ring_tags settings)) (rate_record settings)
+
+-- offers that are made to a ring one after another
+abbrev pub with_offers : PlainRing → List Offer → PlainRing
+with_offers ring [] = ring
+with_offers ring (offer ∷ offers) = with_offers (written ring offer) offers
+
+abbrev pub is_end : Found → Bool
+is_end End = true
+is_end _ = false
+
+-- What reads take until one finds the end, so many reads at most.
+unfoldable pub taken_to_end : ℕ → PlainRing → List RingRecord
+taken_to_end zero ring = []
+taken_to_end (suc reads) ring =
+    let next = acted (looked ring) in records_taken (looked ring) ++ (if is_end next.hand then [] else taken_to_end reads next)
+
+-- ---- the turns
+
+-- What a run has so far: its journal, how many numbers were taken, the ring of samples, and what the reader took from it.
+pub record SoFar : Type 0 where
+  pub journal : List Entry
+  pub taken : ℕ
+  pub ring : PlainRing
+  pub records : List RingRecord
+
+-- as it begins
+abbrev pub begun : Parts → Settings → SoFar
+begun program settings = record { journal = []; taken = 0; ring = begun_ring program settings; records = [] }
+
+-- What the actors that can act would do, in the order of the actors: the workers and the profiler make entries, and the
+-- reader, the last one, reads the ring where there is something to take. The reader doesn't go on alone.
+abbrev pub acts_of : List Entry → Bool → List Act
+acts_of [] reads = []
+acts_of (entry ∷ entries) reads = map Make (entry ∷ entries) ++ (if reads then Read ∷ [] else [])
+
+-- The next turn, where a worker or the profiler can act.
+abbrev pub next_turn : Code → Settings → SoFar → Option Turn
+next_turn code settings run =
+    chosen settings run.taken (acts_of (actions code settings (last code settings run.journal)) (has_more run.ring))
+
+-- With an entry comes what it samples, which is offered to the ring.
+abbrev pub with_entry : Code → Settings → SoFar → Entry → SoFar
+with_entry code settings run entry =
+    record run {
+      journal = run.journal ++ entry ∷ [];
+      ring = with_offers run.ring (sampled_at code (last code settings run.journal) entry);
+    }
+
+-- a read of the ring
+abbrev pub with_read : SoFar → SoFar
+with_read run = record run { ring = acted (looked run.ring); records = run.records ++ records_taken (looked run.ring) }
+
+abbrev pub after_act : Code → Settings → SoFar → Act → SoFar
+after_act code settings run (Make entry) = with_entry code settings run entry
+after_act code settings run Read = with_read run
+
+abbrev pub after_turn : Code → Settings → SoFar → Turn → SoFar
+after_turn code settings run turn = record (after_act code settings run turn.act) { taken = turn.taken }
+
+-- what there is behind a turn, where there is one
+abbrev pub behind_turn : SoFar → Option Turn → (Turn → SoFar) → SoFar
+behind_turn run None behind = run
+behind_turn run (Some turn) behind = behind turn
+
+-- what a run has after so many turns more, as long as there are turns
+abbrev pub after_turns : Code → Settings → ℕ → SoFar → SoFar
+after_turns code settings zero run = run
+after_turns code settings (suc turns) run =
+    behind_turn run (next_turn code settings run) (λ turn. after_turns code settings turns (after_turn code settings run turn))
+
+-- ---- the run
+
+-- The most turns: each makes an entry or takes a record, of which there are no more than offers, and one read more finds
+-- the end of the ring.
+abbrev pub most_turns : Settings → ℕ
+most_turns settings = 2 * most_entries settings + 2
+
+-- What a run has once no worker and no profiler can act.
+unfoldable pub sim_run : Parts → Settings → SoFar
+sim_run program settings = after_turns (code_of program) settings (most_turns settings) (begun program settings)
+
+-- The journal that the choice gives.
+abbrev pub sim_journal : Parts → Settings → List Entry
+sim_journal program settings = (sim_run program settings).journal
+
+-- The records that the reader took. At the end the ring is closed, and read until its end is found: by a read of what is
+-- unread, one of a pending loss, and one behind these.
+abbrev pub sim_records : Parts → Settings → List RingRecord
+sim_records program settings = let run = sim_run program settings in run.records ++ taken_to_end 3 (closed run.ring)

@@ -5,13 +5,15 @@ ghost use Rattle.gp_journal.specs.Run.{state_of};
 ghost use Rattle.gp_journal.specs.Shown.{IsGiven};
 ghost use Rattle.gp_journal.specs.Bodies.{AreBodiesOf};
 ghost use Rattle.gp_journal.specs.Standing.{head_of};
-ghost use Rattle.gp_sim.specs.Choice.{goes_on_with, worker_action, answers, profiler_action, actions, chosen};
-ghost use Rattle.gp_sim.specs.kept.Acting.{idle_head, able, IsAble, IsAbleAt};
+ghost use Rattle.gp_ring.specs.PlainRing.{has_more};
+ghost use Rattle.gp_sim.specs.Choice.{goes_on_with, worker_action, answers, profiler_action, actions, acts_of, chosen};
+ghost use Rattle.gp_sim.specs.kept.Acting.{idle_head, able, IsAble, IsAbleAt, number_acting, IsGivenTo};
 
 use crate::bodies::Bodies;
-use crate::numbers::{Numbers, Turn};
+use crate::numbers::{Act, Numbers, Turn};
 use gp_isa::{Program, limits};
 use gp_machine::{Entry, Machine, Run, Settings, SharedPoint};
+use gp_ring::Ring;
 
 /// What an actor does: its entry, and where that is an Op, its goroutine's next point.
 #[derive(Clone, Copy)]
@@ -20,7 +22,7 @@ pub(crate) struct Action {
     pub(crate) point: Option<SharedPoint>,
 }
 
-/// A turn, and where its entry is an Op, its goroutine's next point.
+/// A turn, and where it makes an Op, its goroutine's next point.
 #[derive(Clone, Copy)]
 pub(crate) struct Step {
     pub(crate) turn: Turn,
@@ -164,10 +166,22 @@ fn profiler_action<R: Run>(machine: &Machine<R>, settings: &Settings) -> Option<
     None
 }
 
-/// The next turn, where an actor can act. Only the one that acts is looked at.
+// How many of the actors can act: those that make entries, and the reader, which doesn't go on alone.
+fn number_acting(entries: u32, reads: bool) -> u32
+    requires { entries + 1 < 2 ^ 32 }
+    ensures { result ≡ number_acting entries reads }
+{
+    if entries == 0 {
+        return 0;
+    }
+    entries + reads as u32
+}
+
+/// The next turn, where a worker or the profiler can act. Only the one that acts is looked at.
 pub(crate) fn next_step<R: Run>(
     machine: &Machine<R>,
     bodies: &Bodies<R>,
+    ring: &Ring,
     numbers: &Numbers<R>,
     program: &Program,
     settings: &Settings,
@@ -178,30 +192,45 @@ pub(crate) fn next_step<R: Run>(
     requires bodies { AreBodiesOf (state_of R.program R.settings machine.now) bodies.now }
     requires room { numbers.now + 1 < 2 ^ 64 }
     ensures none { IfNone result (
-        chosen R.settings numbers.now (actions (code_of R.program) R.settings (state_of R.program R.settings machine.now)) ≡ None) }
+        chosen R.settings numbers.now
+        (acts_of (actions (code_of R.program) R.settings (state_of R.program R.settings machine.now)) (has_more ring.now)) ≡ None) }
     ensures turn { IfSome result (λ step.
-        chosen R.settings numbers.now (actions (code_of R.program) R.settings (state_of R.program R.settings machine.now))
+        chosen R.settings numbers.now
+        (acts_of (actions (code_of R.program) R.settings (state_of R.program R.settings machine.now)) (has_more ring.now))
         ≡ Some step.turn) }
     ensures point { IfSome result (λ step.
-        IsGiven (code_of R.program) (state_of R.program R.settings machine.now) step.turn.entry step.point) }
+        IsGivenTo (code_of R.program) (state_of R.program R.settings machine.now) step.turn.act step.point) }
     ensures more { IfSome result (λ step. numbers.now ≤ step.turn.taken) }
     ensures one { IfSome result (λ step. step.turn.taken ≤ numbers.now + 1) }
 {
     let _ = machine.journal();
     let head = idle_head(machine);
     let workers = able(machine, settings, head);
-    let profiler = profiler_acts(machine) as u32;
-    let draw = numbers.choose(workers + profiler)?;
+    let entries = workers + profiler_acts(machine) as u32;
+    let draw = numbers.choose(number_acting(entries, ring.has_more()))?;
     let taken = draw.taken;
     if draw.place < workers {
         let w = able_at(machine, head, draw.place);
         let Action { entry, point } = worker_action(machine, bodies, program, w, head);
-        let turn = Turn { entry, taken };
-        return Some(Step { turn, point });
+        let act = Act::Make { entry };
+        return Some(Step {
+            turn: Turn { act, taken },
+            point,
+        });
+    }
+    if draw.place == entries {
+        let act = Act::Read;
+        return Some(Step {
+            turn: Turn { act, taken },
+            point: None,
+        });
     }
     match profiler_action(machine, settings) {
         Some(entry) => Some(Step {
-            turn: Turn { entry, taken },
+            turn: Turn {
+                act: Act::Make { entry },
+                taken,
+            },
             point: None,
         }),
         None => unreachable!(),

@@ -1,9 +1,10 @@
-ghost use Rattle.std.specs.Prelude.{◌≡◌, ◌<◌, ◌≤◌, ◌+◌, ◌++◌, ◌∷◌, [], false, length, get_or, take, min, IfOk};
+ghost use Rattle.std.specs.Prelude.{◌≡◌, ◌<◌, ◌≤◌, ◌+◌, ◌++◌, ◌∷◌, [], false, length, get_or, map, take, min, IfOk};
 ghost use Rattle.gp_isa.specs.Trace.{trace};
 ghost use Rattle.gp_stack.specs.Body.{progress_of, stack_at, is_over_at, StandsIn, IsAtShared};
 ghost use Rattle.gp_stack.specs.Goroutine.{labels_of, local_ahead};
 ghost use Rattle.gp_stack.specs.Peek.{then_at};
 ghost use Rattle.gp_stack.specs.Record.{record_of};
+ghost use Rattle.gp_stack.specs.Word.{word_of};
 ghost use Rattle.gp_journal.specs.Bodies.{nowhere, moved_on};
 ghost use Rattle.gp_sim.specs.kept.Bodies.{Shows, gone_on, joined};
 
@@ -150,6 +151,21 @@ impl<R: Run> Bodies<R> {
             AtPoint::Passes => {}
             AtPoint::Stays => {}
         }
+    }
+
+    /// Writes the words of the stack of g, the leaf first, as many as there is room for, and says how many. At the end of
+    /// its trace there are none.
+    pub fn stack_words(&self, program: &Program, g: u32, to: &mut [u64]) -> usize
+        requires program { program.now ≡ R.program }
+        requires born { g < length self.now }
+        ensures few { result ≤ length to.new }
+        ensures words { take result to.new ≡ map word_of (take (length to.old) (stack_at R.program (get_or self.now g nowhere))) }
+    {
+        let body = &self.bodies[g as usize];
+        if body.is_over(program) {
+            return 0;
+        }
+        body.stack_words(program, to)
     }
 
     /// The stack of g, whose trace isn't ended, cut to so many frames. It takes no memory for none.

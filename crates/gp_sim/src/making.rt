@@ -10,12 +10,17 @@ ghost use Rattle.gp_journal.specs.Bodies.{nowhere, standing};
 ghost use Rattle.gp_machine.specs.AtPoint.{at_point};
 ghost use Rattle.gp_journal.specs.declared.entry.Entry.TheVariants as entry;
 ghost use Rattle.gp_stack.specs.declared.statement.Operation.TheVariants as operation;
-ghost use Rattle.gp_sim.specs.kept.Simulation.{IsQuiet, BearsNobody};
+ghost use Rattle.gp_sim.specs.Choice.{with_entry, with_read, after_act};
+ghost use Rattle.gp_sim.specs.ChoiceLaw.{MayAct};
+ghost use Rattle.gp_sim.specs.kept.Acting.{IsGivenTo};
+ghost use Rattle.gp_sim.specs.kept.Simulation.{IsQuiet, BearsNobody, KeepsRing, StaysButRing};
 
 use crate::bodies::{Bodies, newborn};
+use crate::numbers::Act;
+use crate::reading::read;
 use crate::simulation::Simulation;
 use gp_history::History;
-use gp_isa::{Memory, Program};
+use gp_isa::{Memory, Program, limits};
 use gp_machine::{AtPoint, Entry, Run, Settings, SharedPoint};
 use gp_stack::Operation;
 use std::alloc::Global;
@@ -48,7 +53,7 @@ fn come_to<R: Run>(
 }
 
 impl<R: Run> Simulation<R> {
-    // Makes an entry by which no body moves, and no profile begins, grows or ends.
+    // Makes an entry by which no body moves, nobody is sampled, and no profile begins, grows or ends.
     fn enter(&mut self, made: Entry)
         requires may { May (code_of R.program) R.settings (state_of R.program R.settings self.old.journal) made }
         requires quiet { IsQuiet made }
@@ -69,6 +74,21 @@ impl<R: Run> Simulation<R> {
         ensures { self.new ≡ record self.old { journal = self.old.journal ++ entry.Close epoch ∷ [] } }
     {
         self.history.close(epoch);
+    }
+
+    // g is sampled on w: its sample is offered to the ring, as g stands and at the clock.
+    fn tick(&mut self, program: &Program, w: u32, g: u32)
+        requires program { program.now ≡ R.program }
+        requires may { May (code_of R.program) R.settings (state_of R.program R.settings self.old.journal) (entry.Tick w g) }
+        requires ring { KeepsRing R.program R.settings self.old }
+        ensures { self.new ≡ with_entry (code_of R.program) R.settings self.old (entry.Tick w g) }
+    {
+        let time = limits::INSTRUCTION_TIME * self.history.machine().clock();
+        let tag = self.bodies.labels(g) as u64;
+        let mut words = [0; limits::CPU_FRAMES as usize];
+        let frames = self.bodies.stack_words(program, g, &mut words);
+        self.history.enter(Entry::Tick { w, g });
+        self.ring.write(tag, time, &[1], &words[..frames]);
     }
 
     // g passes n local points on w.
@@ -165,9 +185,9 @@ impl<R: Run> Simulation<R> {
         self.operate(alloc, program, w, g, point)
     }
 
-    /// Makes an entry that may come, with the next point of its goroutine where it is an Op. What takes memory is made
-    /// first.
-    pub fn make(
+    // Makes an entry that may come, with the next point of its goroutine where it is an Op. What takes memory is made
+    // first.
+    fn make(
         &mut self,
         alloc: Global,
         program: &Program,
@@ -179,7 +199,8 @@ impl<R: Run> Simulation<R> {
         requires settings { settings.now ≡ R.settings }
         requires may { May (code_of R.program) R.settings (state_of R.program R.settings self.old.journal) made }
         requires point { IsGiven (code_of R.program) (state_of R.program R.settings self.old.journal) made point }
-        ensures ok { OnOk result (self.new ≡ record self.old { journal = self.old.journal ++ made ∷ [] }) }
+        requires ring { KeepsRing R.program R.settings self.old }
+        ensures ok { OnOk result (self.new ≡ with_entry (code_of R.program) R.settings self.old made) }
         ensures err { OnErr result (self.new ≡ self.old) }
     {
         match made {
@@ -191,11 +212,44 @@ impl<R: Run> Simulation<R> {
             Entry::Run { w, g, n } => self.run(program, w, g, n),
             Entry::Open { epoch, room } => self.open(epoch, room),
             Entry::Close { epoch } => self.close(epoch),
+            Entry::Tick { w, g } => self.tick(program, w, g),
             Entry::Start { .. } => self.enter(made),
-            Entry::Tick { .. } => self.enter(made),
             Entry::Park { .. } => self.enter(made),
             Entry::Refuse { .. } => self.enter(made),
         }
         Ok(())
+    }
+
+    // The reader reads once.
+    fn read(&mut self, alloc: Global) -> Result<(), Memory>
+        requires { KeepsRing R.program R.settings self.old }
+        ensures ok { OnOk result (self.new ≡ with_read self.old) }
+        ensures err { OnErr result (StaysButRing self.old self.new) }
+    {
+        let _ = read(alloc, &mut self.ring, &mut self.cpu)?;
+        Ok(())
+    }
+
+    /// Does what an actor does in its turn. An entry comes with the next point of its goroutine where it is an Op.
+    pub fn carry_out(
+        &mut self,
+        alloc: Global,
+        program: &Program,
+        settings: &Settings,
+        act: Act,
+        point: Option<SharedPoint>,
+    ) -> Result<(), Memory>
+        requires program { program.now ≡ R.program }
+        requires settings { settings.now ≡ R.settings }
+        requires may { MayAct (code_of R.program) R.settings (state_of R.program R.settings self.old.journal) act }
+        requires point { IsGivenTo (code_of R.program) (state_of R.program R.settings self.old.journal) act point }
+        requires ring { KeepsRing R.program R.settings self.old }
+        ensures ok { OnOk result (self.new ≡ after_act (code_of R.program) R.settings self.old act) }
+        ensures err { OnErr result (StaysButRing self.old self.new) }
+    {
+        match act {
+            Act::Make { entry } => self.make(alloc, program, settings, entry, point),
+            Act::Read => self.read(alloc),
+        }
     }
 }

@@ -9,14 +9,23 @@ use rand_core::utils::NextWord;
 use rand_pcg::Pcg32;
 use std::marker::{Model, PhantomData};
 
-/// What one turn does: its entry, and how many numbers were taken once it is made.
+/// What an actor does in its turn.
+#[derive(Clone, Copy)]
+pub enum Act {
+    /// A worker or the profiler makes an entry.
+    Make { entry: Entry },
+    /// The reader reads the ring of samples.
+    Read,
+}
+
+/// A turn: what is done in it, and how many numbers were taken once it is done.
 #[derive(Clone, Copy)]
 pub struct Turn {
-    pub entry: Entry,
+    pub act: Act,
     pub taken: usize,
 }
 
-/// Which of those that can act does, by its place among them, and how many numbers were taken once its turn is made.
+/// Which of those that can act does, by its place among them, and how many numbers were taken once its turn is done.
 #[derive(Clone, Copy)]
 pub(crate) struct Draw {
     pub(crate) place: u32,

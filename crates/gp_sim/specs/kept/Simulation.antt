@@ -1,38 +1,48 @@
 -- What a simulation has so far.
-use Rattle.std.specs.Prelude.{◌≡◌, ◌≤◌, ℕ, Bool, List, [], ◌∷◌, ◌++◌, Option, Some, None, is_some}
+use Rattle.std.specs.Prelude.{◌≡◌, ◌≤◌, ℕ, Bool, false, List, Option, Some, None, is_some}
+use Rattle.std.specs.List.{AllByRecursion}
 use Rattle.gp_isa.specs.declared.parts.Parts.{Parts}
 use Rattle.gp_stack.specs.Body.{Progress}
 use Rattle.gp_stack.specs.declared.statement.Operation.TheVariants as operation
 use Rattle.gp_journal.specs.declared.answer.SharedPoint.{SharedPoint}
 use Rattle.gp_journal.specs.declared.entry.Entry.{Entry}
-use Rattle.gp_journal.specs.declared.entry.Entry.TheVariants.{Start, Tick, Park, Refuse}
+use Rattle.gp_journal.specs.declared.entry.Entry.TheVariants.{Start, Park, Refuse}
 use Rattle.gp_journal.specs.declared.settings.Settings.{Settings}
 use Rattle.gp_journal.specs.Settings.{AreInRange}
 use Rattle.gp_journal.specs.State.{Code, State, code_of, births}
-use Rattle.gp_journal.specs.Run.{IsLegal, last, state_of}
+use Rattle.gp_journal.specs.Run.{IsLegal, last}
 use Rattle.gp_journal.specs.Bodies.{AreBodiesOf}
 use Rattle.gp_sim.specs.declared.numbers.Turn.{Turn}
-use Rattle.gp_sim.specs.Choice.{actions, chosen}
-
--- the journal, and how many numbers were taken
-pub record SoFar : Type 0 where
-  pub journal : List Entry
-  pub taken : ℕ
-
--- the next turn, where some actor can act
-abbrev pub next_turn : Parts → Settings → SoFar → Option Turn
-next_turn program settings before =
-    chosen settings before.taken (actions (code_of program) settings (state_of program settings before.journal))
+use Rattle.gp_ring.specs.Follows.{Follows}
+use Rattle.gp_cpu.specs.Samples.{samples_of_journal}
+use Rattle.gp_cpu.specs.BatchLaw.{IsWhole}
+use Rattle.gp_sim.specs.Choice.{SoFar, next_turn, after_turn, ring_len, ring_tags}
 
 -- what there is after a turn, where there was one
-abbrev pub after_turn : SoFar → Option Turn → SoFar
-after_turn before None = before
-after_turn before (Some turn) = record { journal = before.journal ++ turn.entry ∷ []; taken = turn.taken }
+abbrev pub after_turn_if : Code → Settings → SoFar → Option Turn → SoFar
+after_turn_if code settings before None = before
+after_turn_if code settings before (Some turn) = after_turn code settings before turn
 
--- One turn: whether there was one is told, and its entry was made.
-pub record TakesTurn (choice : Option Turn) (made : Bool) (before now : SoFar) : Type 0 where
-  pub told : made ≡ is_some choice
-  pub after : now ≡ after_turn before choice
+-- One turn: whether there was one is told, and it was taken.
+pub record TakesTurn (code : Code) (settings : Settings) (made : Bool) (before now : SoFar) : Type 0 where
+  pub told : made ≡ is_some (next_turn code settings before)
+  pub after : now ≡ after_turn_if code settings before (next_turn code settings before)
+
+-- All is as it was but the ring, from which a read that found no memory may have taken something.
+pub record StaysButRing (before now : SoFar) : Type 0 where
+  pub journal : now.journal ≡ before.journal
+  pub taken : now.taken ≡ before.taken
+  pub records : now.records ≡ before.records
+
+-- The ring of a run so far is open, of the run's size, and follows the samples of the journal and the records taken; what is
+-- unread are whole records.
+pub record KeepsRing (program : Parts) (settings : Settings) (run : SoFar) : Type 0 where
+  pub header : run.ring.hdrsize ≡ 1
+  pub words : run.ring.len ≡ ring_len program settings
+  pub tags : run.ring.tags ≡ ring_tags settings
+  pub is_open : run.ring.ended ≡ false
+  pub follows : Follows (samples_of_journal (code_of program) settings run.journal) run.records run.ring
+  pub whole : AllByRecursion IsWhole run.ring.unread
 
 -- The bodies stand where their goroutines stand.
 pub record IsSimulation (code : Code) (settings : Settings) (journal : List Entry) (bodies : List Progress) : Type 0 where
@@ -40,10 +50,9 @@ pub record IsSimulation (code : Code) (settings : Settings) (journal : List Entr
   pub legal : IsLegal code settings journal
   pub its_bodies : AreBodiesOf (last code settings journal) bodies
 
--- An entry by which no goroutine passes a point, and no profile begins, grows or ends.
+-- An entry by which no goroutine passes a point or is sampled, and no profile begins, grows or ends.
 abbrev pub IsQuiet : Entry → Type 0
 IsQuiet (Start w g) = Unit {0}
-IsQuiet (Tick w g) = Unit {0}
 IsQuiet (Park w g) = Unit {0}
 IsQuiet (Refuse room n) = Unit {0}
 IsQuiet _ = ⊥

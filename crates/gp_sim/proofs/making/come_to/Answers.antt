@@ -1,8 +1,8 @@
-use Rattle.std.proofs.Common.{◌≡◌, ℕ, take, Some, sym, ap, ◌∙◌, subst, is_some, true}
+use Rattle.std.proofs.Common.{◌≡◌, ℕ, take, Some, sym, ◌∙◌, subst}
 use Rattle.std.proofs.lemmas.Option.{same_Some}
-use Rattle.gp_stack.specs.Body.{Progress, stack_at}
+use Rattle.gp_stack.specs.Body.{stack_at}
 use Rattle.gp_stack.specs.Peek.{operation_of}
-use Rattle.gp_journal.specs.State.{State, code_of, worker}
+use Rattle.gp_journal.specs.State.{code_of}
 use Rattle.gp_journal.specs.Due.{next_instruction}
 use Rattle.gp_journal.specs.Run.{state_of}
 use Rattle.gp_journal.specs.May.{IsDue}

@@ -1,7 +1,8 @@
 use Rattle.std.proofs.Common.{refl, ap, subst}
 use Rattle.gp_journal.specs.State.{code_of}
 use Rattle.gp_journal.specs.declared.entry.Entry.TheVariants as entry
-use Rattle.gp_sim.specs.kept.Simulation.{SoFar, IsSimulation}
+use Rattle.gp_sim.specs.Choice.{SoFar}
+use Rattle.gp_sim.specs.kept.Simulation.{IsSimulation}
 use Rattle.gp_sim.proofs.Stepping.{by_still}
 use Rattle.gp_sim.proofs.simulation.Simulation.close.Goals as goal
 

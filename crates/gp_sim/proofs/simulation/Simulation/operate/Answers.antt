@@ -5,7 +5,8 @@ use Rattle.gp_journal.specs.Answer.{op_answer}
 use Rattle.gp_journal.specs.Bodies.{followed}
 use Rattle.gp_machine.specs.AtPoint.{at_point}
 use Rattle.gp_sim.specs.kept.Bodies.{gone_on}
-use Rattle.gp_sim.specs.kept.Simulation.{SoFar, IsSimulation}
+use Rattle.gp_sim.specs.Choice.{SoFar}
+use Rattle.gp_sim.specs.kept.Simulation.{IsSimulation}
 use Rattle.gp_sim.proofs.Stepping.{runner_has_body, runner_stands, at_shared, operated, gone_on_is}
 use Rattle.gp_sim.proofs.simulation.Simulation.operate.Goals as goal
 

@@ -1,6 +1,7 @@
 use Rattle.std.proofs.Common.{ap, subst}
 use Rattle.gp_journal.specs.State.{code_of}
-use Rattle.gp_sim.specs.kept.Simulation.{SoFar, IsSimulation}
+use Rattle.gp_sim.specs.Choice.{SoFar}
+use Rattle.gp_sim.specs.kept.Simulation.{IsSimulation}
 use Rattle.gp_sim.proofs.Stepping.{runner_has_body, points_ahead, ran}
 use Rattle.gp_sim.proofs.simulation.Simulation.run.Goals as goal
 

@@ -9,7 +9,8 @@ use Rattle.gp_journal.specs.Bodies.{followed, gained}
 use Rattle.gp_machine.specs.AtPoint.{at_point}
 use Rattle.gp_sim.specs.kept.Bodies.{gone_on, joined}
 use Rattle.gp_journal.proofs.Lemmas.{born_there}
-use Rattle.gp_sim.specs.kept.Simulation.{SoFar, IsSimulation}
+use Rattle.gp_sim.specs.Choice.{SoFar}
+use Rattle.gp_sim.specs.kept.Simulation.{IsSimulation}
 use Rattle.gp_sim.proofs.Stepping.{runner_has_body, runner_stands, at_shared, spawned, cell_left_by, gone_on_is, joined_is}
 use Rattle.gp_sim.proofs.simulation.Simulation.spawn.Goals as goal
 
