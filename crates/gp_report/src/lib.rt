@@ -14,6 +14,22 @@
 //! Each line ends with a line feed. Numbers are decimal, as the standard library writes them. The definition of the lines is
 //! `specs/Fault.antt`, with the causes' numbers as they come.
 //!
+//! [`summary`] makes the text of a run that is complete, from its report and the sums of its block and of its mutex events
+//! ([`Totals`]):
+//!
+//! ```text
+//! end deadlock                      or main, full, fault 1, fault 2
+//! entries 19                        entries of the journal
+//! instructions 5                    the clock at the end: the instructions of all workers
+//! born 4 live 4                     goroutines
+//! ticks 0 samples 0 lost 0          Tick entries; CPU samples that were delivered, and those that were lost
+//! profiles 1 refused 0              goroutine profiles that were opened, and those that were refused
+//! block 0 0                         block events: what they count, and their delay in nanoseconds
+//! mutex 0 0                         mutex events, and the same of them
+//! ```
+//!
+//! The first record of the ring of samples, the rate record, is no sample. The definition is `specs/Summary.antt`.
+//!
 //! [`dump`] makes the text of what a profile means (`gp_build`'s `Meaning`):
 //!
 //! ```text
@@ -40,8 +56,12 @@ mod meaning;
 mod pieces;
 mod refusal;
 mod report;
+mod run_summary;
+mod totals;
 
 pub use line::fault;
 pub use meaning::dump;
 pub use refusal::Fault;
 pub use report::Report;
+pub use run_summary::summary;
+pub use totals::Totals;

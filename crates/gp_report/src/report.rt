@@ -1,3 +1,4 @@
+use gp_cpu::CpuRecords;
 use gp_journal::{Counts, Ended, Journal, Refusals};
 use gp_stack::Profiles;
 
@@ -6,6 +7,8 @@ use gp_stack::Profiles;
 pub struct Report {
     /// The entries, in their order.
     pub journal: Journal,
+    /// What the reader took from the ring of CPU samples, in its order.
+    pub cpu_records: CpuRecords,
     /// The records of each goroutine profile that was opened, by epoch, in the order in which they were made.
     pub goroutine_records: Profiles,
     /// The room and the number of live goroutines of each profile that was refused.
