@@ -1,7 +1,7 @@
-pub mod Reporting
-pub mod Loading
-pub mod Saving
-pub mod Heading
 pub mod Asking
+pub mod Loading
 pub mod Refusing
-pub mod Given
+pub mod Reporting
+pub mod Putting
+pub mod Summing
+pub mod Heading

@@ -1,5 +1,5 @@
 -- What failed reads and refused texts tell of the source.
-use Rattle.std.proofs.Common.{◌≡◌, ◌≤◌, ◌+◌, ℕ, List, [], length, true, ap, arith, Option, Some, None, Result, Ok, Err, refl, sym, ◌∙◌, subst, IsErrAnd, IfErr}
+use Rattle.std.proofs.Common.{◌≡◌, ◌≤◌, ◌+◌, ℕ, List, [], length, false, ap, arith, Option, Some, None, Result, Ok, Err, refl, sym, ◌∙◌, subst, IsErrAnd, IfErr, inl, inr}
 use Rattle.std.specs.Prelude.{IfSome}
 use Rattle.std.proofs.lemmas.List.{drop_all}
 use Rattle.gp_io.specs.Outside.{Rose}
@@ -9,7 +9,6 @@ use Rattle.gp_text.specs.declared.cause.Cause.{Cause}
 use Rattle.gp_text.specs.declared.error.TextError.{TextError}
 use Rattle.gp_text.specs.declared.error.TextError.TheVariants as text
 use Rattle.gp_text.specs.Reading.{program_of, Refuses, IsRefusalOf}
-use Rattle.gp_report.specs.declared.refusal.Fault.{Fault}
 use Rattle.gp_report.specs.declared.refusal.Fault.TheVariants.{Usage, Line, At, Long, Read}
 use Rattle.gp_words.specs.declared.error.WordError.{WordError}
 use Rattle.gp_words.specs.declared.error.WordError.TheVariants as words
@@ -24,8 +23,8 @@ use Rattle.gp_wire.specs.declared.error.WireError.TheVariants as profile
 use Rattle.gp_top.specs.declared.stop.Stop.{Stop}
 use Rattle.gp_top.specs.declared.stop.Stop.TheVariants as stop
 use Rattle.gp_top.specs.kept.Steps.{stop_of_words, stop_of_read, stop_of_text, stop_of_profile, LoadStops, ProfileStops, RunStops, WordsStop}
-use Rattle.gp_top.specs.Top.{is_built, asked_of, IsTooLong, IsFaulty, IsFaultyProfile, IsReadTo}
-use Rattle.gp_top.proofs.Asking.{asked_built}
+use Rattle.gp_top.specs.Asked.{is_run, asked_of, IsTooLong, IsFaulty, IsFaultyProfile, IsReadTo}
+use Rattle.gp_top.proofs.Asking.{asked_other}
 
 -- a source that was read to its end within a limit
 pub whole_read : (limit : ℕ) (held left : Option (List ℕ)) (bytes : List ℕ) → IfSome held (λ all. bytes ≡ all) → length bytes ≤ limit → IfSome held (λ _. left ≡ Some [])
@@ -95,19 +94,19 @@ module _ {S : Type 0} (left : S → Option (List ℕ)) (faults : S → ℕ) (ask
   stopped_load (stop.Fault (Usage place cause)) file settings job tells = absurd tells
   stopped_load (stop.Fault (Line line cause)) file settings job tells = ((file, settings, job), tells)
   stopped_load (stop.Fault (At at cause)) file settings job tells = absurd tells
-  stopped_load (stop.Fault Long) file settings job tells = (Sim file settings, job, tells.0, tells.1)
-  stopped_load (stop.Fault Read) file settings job tells = (record { job = Sim file settings; names = job }, tells)
+  stopped_load (stop.Fault Long) file settings job tells = inl ((file, settings, job), tells)
+  stopped_load (stop.Fault Read) file settings job tells = (inl (file, settings, job), tells)
   stopped_load stop.Memory file settings job tells = tt
 
   pub stopped_profile : (stop : Stop) (file : List ℕ) → asked_of asked ≡ Names (Dump file) → ProfileStops left faults old new stop → RunStops left faults asked old new stop
   stopped_profile (stop.Fault (Usage place cause)) file job tells = absurd tells
   stopped_profile (stop.Fault (Line line cause)) file job tells = absurd tells
   stopped_profile (stop.Fault (At at cause)) file job tells = ((file, job), tells)
-  stopped_profile (stop.Fault Long) file job tells = (Dump file, job, tells.0, tells.1)
-  stopped_profile (stop.Fault Read) file job tells = (record { job = Dump file; names = job }, tells)
+  stopped_profile (stop.Fault Long) file job tells = inr ((file, job), tells)
+  stopped_profile (stop.Fault Read) file job tells = (inr (file, job), tells)
   stopped_profile stop.Memory file job tells = tt
 
--- words of a command that is done, which are at fault
-pub words_stop : (asked : List (List ℕ)) (e : WordError) → is_built asked ≡ true → IsFault e (job_of asked) → WordsStop asked (stop_of_words e)
-words_stop asked (words.Usage place cause) built fault = asked_built asked built ∙ fault
-words_stop asked words.Memory built fault = tt
+-- words that don't begin with `run`, which are at fault
+pub words_stop : (asked : List (List ℕ)) (e : WordError) → is_run asked ≡ false → IsFault e (job_of asked) → WordsStop asked (stop_of_words e)
+words_stop asked (words.Usage place cause) other fault = asked_other asked other ∙ fault
+words_stop asked words.Memory other fault = tt

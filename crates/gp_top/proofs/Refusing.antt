@@ -10,17 +10,16 @@ use Rattle.gp_text.specs.Reading.{program_of, Gives}
 use Rattle.gp_text.specs.declared.cause.Cause.{Cause}
 use Rattle.gp_words.specs.Job.{job_of}
 use Rattle.gp_words.specs.Read.{Names}
-use Rattle.gp_words.specs.declared.jobs.Job.{Job}
-use Rattle.gp_words.specs.declared.jobs.Job.TheVariants.{Sim, Dump}
-use Rattle.gp_wire.specs.Cause as wire
+use Rattle.gp_words.specs.declared.jobs.Job.TheVariants.{Sim, Gen, Dump}
 use Rattle.gp_wire.specs.Reading as reading
 use Rattle.gp_wire.specs.declared.cause.Cause.{Cause as WireCause}
 use Rattle.gp_wire.specs.declared.profile.Profile.{Profile}
 use Rattle.gp_top.specs.Exit.{exit_of}
-use Rattle.gp_top.specs.Top.{asked_of, limit_of, GiveNoJob, HaveJob, GiveNothing, GiveNoProgram, GiveNoProfile, IsTooLong, IsFaulty, IsFaultyProfile, IsRefused, IsReadWhole, IsWithoutReport}
-use Rattle.gp_top.specs.Top.{Sunk, IsWritten, TellsUsage, TellsRefused, TellsLong, TellsLine, TellsAt}
-use Rattle.gp_top.specs.kept.Steps.{FaultTells}
-use Rattle.gp_top.proofs.Asking.{asked_sim, one_job, no_run_and_text}
+use Rattle.gp_top.specs.Asked.{asked_of, GiveNoJob, HaveJob, GiveNoProgram, GiveNoProfile, IsTooLong, IsFaulty, IsFaultyProfile, IsRefused, IsReadWhole}
+use Rattle.gp_top.specs.Putting.{Sunk}
+use Rattle.gp_top.specs.Top.{IsRefusal, IsWritten, TellsUsage, TellsRefused, TellsLong, TellsLine, TellsAt}
+use Rattle.gp_top.specs.kept.Steps.{AskToRead, HeldTooMuch, FaultTells}
+use Rattle.gp_top.proofs.Asking.{asked_names, asked_sim, asked_gen, asked_dump, one_job}
 
 -- how a line was written, by the answer of its write
 pub is_written : {T E : Type 0} (r : Result T E) (line : List ℕ) (before after : Sunk) → OnOk r (Appends before.0 line after.0) → OnErr r (AppendsSome before.0 line after.0)
@@ -55,9 +54,9 @@ refused_profile : (held : Option (List ℕ)) (at : ℕ) (cause : WireCause) → 
 refused_profile None at cause faulty = tt
 refused_profile (Some all) at cause faulty = inl (record { at = at; cause = cause; refuses = faulty.1 })
 
-refused_long : (job : Job) (held : Option (List ℕ)) → IsTooLong (limit_of job) held → IfSome held (λ all. GiveNothing job all ⊎ (limit_of job < length all))
-refused_long job None long = tt
-refused_long job (Some all) long = inr long
+refused_long : (P : List ℕ → Type 0) (limit : ℕ) (held : Option (List ℕ)) → IsTooLong limit held → IfSome held (λ all. P all ⊎ (limit < length all))
+refused_long P limit None long = tt
+refused_long P limit (Some all) long = inr long
 
 -- a program of bytes that aren't too many is not refused
 accepted_line : (held : Option (List ℕ)) (bytes : List ℕ) (program : Parts) (line : ℕ) (cause : Cause) → held ≡ Some bytes → program_of bytes ≡ Gives program → IsFaulty held line cause → ⊥
@@ -82,13 +81,12 @@ accepted_profile (Some all) bytes profile at cause is gives faulty =
 
 module _ (status : ℕ) where
   -- statuses of faults
-  pub without : (what : Fault) → (status ≡ exit_of what) ⊎ (status ≡ 9) → IsWithoutReport status
-  without (Usage place cause) (inl is) = inl (inl is)
-  without (Line line cause) (inl is) = inl (inr (inl is))
-  without (At at cause) (inl is) = inl (inr (inl is))
-  without Long (inl is) = inl (inr (inl is))
-  without Read (inl is) = inl (inr (inr is))
-  without what (inr is) = inr is
+  pub is_refusal : (what : Fault) → status ≡ exit_of what → IsRefusal status
+  is_refusal (Usage place cause) is = inl is
+  is_refusal (Line line cause) is = inr (inl is)
+  is_refusal (At at cause) is = inr (inl is)
+  is_refusal Long is = inr (inl is)
+  is_refusal Read is = inr (inr is)
 
   pub no_put_fault : (what : Fault) → (status ≡ exit_of what) ⊎ (status ≡ 9) → status ≡ 4 → ⊥
   no_put_fault (Usage place cause) (inl is) four = omega arith
@@ -99,6 +97,32 @@ module _ (status : ℕ) where
   no_put_fault what (inr is) four = omega arith
 
 module _ {S : Type 0} (left : S → Option (List ℕ)) (faults : S → ℕ) (words : List (List ℕ)) (old new : S) (status : ℕ) where
+  -- what is read
+  read_job : AskToRead words → HaveJob words
+  read_job (inl run) = record { job = Sim run.0 run.1; names = run.2 }
+  read_job (inr text) = record { job = Dump text.0; names = text.1 }
+
+  -- where it's too much
+  long_job : HeldTooMuch left faults words old new → HaveJob words
+  long_job (inl run) = read_job (inl run.0)
+  long_job (inr text) = read_job (inr text.0)
+
+  long_refused : HeldTooMuch left faults words old new → IsRefused words (left old)
+  long_refused (inl run) = record { job = Sim run.0.0 run.0.1; names = run.0.2; bad = refused_long GiveNoProgram 1048576 (left old) run.1.0 }
+  long_refused (inr text) = record { job = Dump text.0.0; names = text.0.1; bad = refused_long GiveNoProfile 67108864 (left old) text.1.0 }
+
+  long_whole : HeldTooMuch left faults words old new → IsReadWhole words (left old) (left new)
+  long_whole (inl run) = record { job = Sim run.0.0 run.0.1; names = run.0.2; whole = run.1.1.0 }
+  long_whole (inr text) = record { job = Dump text.0.0; names = text.0.1; whole = text.1.1.0 }
+
+  long_well : HeldTooMuch left faults words old new → faults new ≡ faults old
+  long_well (inl run) = run.1.1.1
+  long_well (inr text) = text.1.1.1
+
+  long_told : {before after : Sunk} → HeldTooMuch left faults words old new → IsWritten (fault_line Long) before after → TellsRefused words (left old) before after
+  long_told (inl run) written = TellsLong (Sim run.0.0 run.0.1) (asked_names words (Sim run.0.0 run.0.1) run.0.2) run.1.0 written
+  long_told (inr text) written = TellsLong (Dump text.0.0) (asked_names words (Dump text.0.0) text.0.1) text.1.0 written
+
   -- status 1
   usage_at : (what : Fault) → status ≡ exit_of what → FaultTells left faults words old new what → status ≡ 1 → GiveNoJob words × (new ≡ old)
   usage_at (Usage place cause) is tells one = (record { place = place; cause = cause; faults = tells.0 }, tells.1)
@@ -114,8 +138,8 @@ module _ {S : Type 0} (left : S → Option (List ℕ)) (faults : S → ℕ) (wor
   job_at (Usage place cause) is tells other = absurd (other is)
   job_at (Line line cause) is tells other = record { job = Sim tells.0.0 tells.0.1; names = tells.0.2 }
   job_at (At at cause) is tells other = record { job = Dump tells.0.0; names = tells.0.1 }
-  job_at Long is tells other = record { job = tells.0; names = tells.1 }
-  job_at Read is tells other = tells.0
+  job_at Long is tells other = long_job tells
+  job_at Read is tells other = read_job tells.0
 
   pub have_job : (what : Fault) → (status ≡ exit_of what) ⊎ (status ≡ 9) → FaultTells left faults words old new what → status ≢ 1 → status ≢ 9 → HaveJob words
   have_job what is tells other enough = job_at what (decided what status is enough) tells other
@@ -124,10 +148,10 @@ module _ {S : Type 0} (left : S → Option (List ℕ)) (faults : S → ℕ) (wor
   refused_at : (what : Fault) → status ≡ exit_of what → FaultTells left faults words old new what → status ≡ 2 → IsRefused words (left old)
   refused_at (Usage place cause) is tells two = absurd (omega arith)
   refused_at (Line line number) is tells two =
-      record { job = Sim tells.0.0 tells.0.1; names = tells.0.2; refused = refused_line (left old) line tells.1.0.0 tells.1.0.2 }
+      record { job = Sim tells.0.0 tells.0.1; names = tells.0.2; bad = refused_line (left old) line tells.1.0.0 tells.1.0.2 }
   refused_at (At at number) is tells two =
-      record { job = Dump tells.0.0; names = tells.0.1; refused = refused_profile (left old) at tells.1.0.0 tells.1.0.2 }
-  refused_at Long is tells two = record { job = tells.0; names = tells.1; refused = refused_long tells.0 (left old) tells.2 }
+      record { job = Dump tells.0.0; names = tells.0.1; bad = refused_profile (left old) at tells.1.0.0 tells.1.0.2 }
+  refused_at Long is tells two = long_refused tells
   refused_at Read is tells two = absurd (omega arith)
 
   pub refused : (what : Fault) → (status ≡ exit_of what) ⊎ (status ≡ 9) → FaultTells left faults words old new what → status ≡ 2 → IsRefused words (left old)
@@ -138,7 +162,7 @@ module _ {S : Type 0} (left : S → Option (List ℕ)) (faults : S → ℕ) (wor
   whole_at (Usage place cause) is tells other behind = absurd (other is)
   whole_at (Line line number) is tells other behind = record { job = Sim tells.0.0 tells.0.1; names = tells.0.2; whole = tells.1.1.0 }
   whole_at (At at number) is tells other behind = record { job = Dump tells.0.0; names = tells.0.1; whole = tells.1.1.0 }
-  whole_at Long is tells other behind = record { job = tells.0; names = tells.1; whole = tells.3.0 }
+  whole_at Long is tells other behind = long_whole tells
   whole_at Read is tells other behind = absurd (behind is)
 
   pub whole : (what : Fault) → (status ≡ exit_of what) ⊎ (status ≡ 9) → FaultTells left faults words old new what → status ≢ 1 → status ≢ 3 → status ≢ 9
@@ -160,7 +184,7 @@ module _ {S : Type 0} (left : S → Option (List ℕ)) (faults : S → ℕ) (wor
   well_at (Usage place cause) is tells other = ap faults tells.1
   well_at (Line line cause) is tells other = tells.1.1.1
   well_at (At at cause) is tells other = tells.1.1.1
-  well_at Long is tells other = tells.3.1
+  well_at Long is tells other = long_well tells
   well_at Read is tells other = absurd (other is)
 
   pub read_well : (what : Fault) → (status ≡ exit_of what) ⊎ (status ≡ 9) → FaultTells left faults words old new what → status ≢ 3 → status ≢ 9 → faults new ≡ faults old
@@ -185,10 +209,10 @@ module _ {S : Type 0} (left : S → Option (List ℕ)) (faults : S → ℕ) (wor
         → TellsRefused words (left old) before after
     refused_line_at (Usage place cause) is tells written two = absurd (omega arith)
     refused_line_at (Line line number) is tells written two =
-        TellsLine tells.0.0 tells.0.1 tells.0.2 line tells.1.0.0 tells.1.0.2 (subst (λ (n : ℕ). IsWritten (fault_line (Line line n)) before after) tells.1.0.1 written)
+        TellsLine tells.0.0 tells.0.1 (asked_names words (Sim tells.0.0 tells.0.1) tells.0.2) line tells.1.0.0 tells.1.0.2 (subst (λ (n : ℕ). IsWritten (fault_line (Line line n)) before after) tells.1.0.1 written)
     refused_line_at (At at number) is tells written two =
-        TellsAt tells.0.0 tells.0.1 at tells.1.0.0 tells.1.0.2 (subst (λ (n : ℕ). IsWritten (fault_line (At at n)) before after) tells.1.0.1 written)
-    refused_line_at Long is tells written two = TellsLong tells.0 tells.1 tells.2 written
+        TellsAt tells.0.0 (asked_names words (Dump tells.0.0) tells.0.1) at tells.1.0.0 tells.1.0.2 (subst (λ (n : ℕ). IsWritten (fault_line (At at n)) before after) tells.1.0.1 written)
+    refused_line_at Long is tells written two = long_told tells written
     refused_line_at Read is tells written two = absurd (omega arith)
 
     pub refused_told : (what : Fault) → (status ≡ exit_of what) ⊎ (status ≡ 9) → FaultTells left faults words old new what → (status ≢ 9 → IsWritten (fault_line what) before after)
@@ -209,26 +233,54 @@ module _ {S : Type 0} (left : S → Option (List ℕ)) (faults : S → ℕ) (wor
         let other : status ≢ 9 = λ nine. absurd (omega arith) in
         read_line_at what (decided what status is other) (written other) three
 
+  -- words for one job are none for another
+  no_text : (file name : List ℕ) (settings : Settings) → job_of words ≡ Names (Sim file settings) → asked_of words ≡ Names (Dump name) → ⊥
+  no_text file name settings job e = let same : Sim file settings ≡ Dump name = one_job words (Sim file settings) (Dump name) job (asked_names words (Dump name) e) in absurd cc
+
+  no_run : (file name : List ℕ) (settings : Settings) → job_of words ≡ Names (Dump file) → asked_of words ≡ Names (Sim name settings) → ⊥
+  no_run file name settings job e =
+      let same : Dump file ≡ Sim name settings = one_job words (Dump file) (Sim name settings) job (asked_names words (Sim name settings) e) in absurd cc
+
+  no_read : (n q : ℕ) (settings : Settings) → job_of words ≡ Names (Gen n q settings) → AskToRead words → ⊥
+  no_read n q settings job (inl run) =
+      let same : Gen n q settings ≡ Sim run.0 run.1 = one_job words (Gen n q settings) (Sim run.0 run.1) job (asked_names words (Sim run.0 run.1) run.2) in absurd cc
+  no_read n q settings job (inr text) =
+      let same : Gen n q settings ≡ Dump text.0 = one_job words (Gen n q settings) (Dump text.0) job (asked_names words (Dump text.0) text.1) in absurd cc
+
   -- no fault comes of right words and a right file without a read that fails
+  long_run : (file bytes : List ℕ) (settings : Settings) → HeldTooMuch left faults words old new → job_of words ≡ Names (Sim file settings) → left old ≡ Some bytes → length bytes ≤ 1048576 → ⊥
+  long_run file bytes settings (inl run) job held few = accepted_long 1048576 (left old) bytes held few run.1.0
+  long_run file bytes settings (inr text) job held few = no_text file text.0.0 settings job text.0.1
+
   pub no_fault : (what : Fault) (file bytes : List ℕ) (settings : Settings) (program : Parts) → FaultTells left faults words old new what → job_of words ≡ Names (Sim file settings)
       → left old ≡ Some bytes → length bytes ≤ 1048576 → program_of bytes ≡ Gives program → (Rose (faults old) (faults new) → ⊥) → ⊥
   no_fault (Usage place cause) file bytes settings program tells job held few gives well = let e = sym tells.0 ∙ asked_sim words file settings job in absurd cc
   no_fault (Line line number) file bytes settings program tells job held few gives well = accepted_line (left old) bytes program line tells.1.0.0 held gives tells.1.0.2
-  no_fault (At at number) file bytes settings program tells job held few gives well =
-      no_run_and_text words file tells.0.0 settings (asked_sim words file settings job) tells.0.1
-  no_fault Long file bytes settings program tells job held few gives well =
-      let same : tells.0 ≡ Sim file settings = one_job words tells.0 (Sim file settings) tells.1 (asked_sim words file settings job) in
-      accepted_long 1048576 (left old) bytes held few (subst (λ (j : Job). IsTooLong (limit_of j) (left old)) same tells.2)
+  no_fault (At at number) file bytes settings program tells job held few gives well = no_text file tells.0.0 settings job tells.0.1
+  no_fault Long file bytes settings program tells job held few gives well = long_run file bytes settings tells job held few
   no_fault Read file bytes settings program tells job held few gives well = well tells.1
 
+  -- nor of right words for a generated program
+  long_gen : (n q : ℕ) (settings : Settings) → job_of words ≡ Names (Gen n q settings) → HeldTooMuch left faults words old new → ⊥
+  long_gen n q settings job (inl run) = no_read n q settings job (inl run.0)
+  long_gen n q settings job (inr text) = no_read n q settings job (inr text.0)
+
+  pub no_fault_of_numbers : (what : Fault) (n q : ℕ) (settings : Settings) → FaultTells left faults words old new what → job_of words ≡ Names (Gen n q settings) → ⊥
+  no_fault_of_numbers (Usage place cause) n q settings tells job = let e = sym tells.0 ∙ asked_gen words n q settings job in absurd cc
+  no_fault_of_numbers (Line line number) n q settings tells job = no_read n q settings job (inl tells.0)
+  no_fault_of_numbers (At at number) n q settings tells job = no_read n q settings job (inr tells.0)
+  no_fault_of_numbers Long n q settings tells job = long_gen n q settings job tells
+  no_fault_of_numbers Read n q settings tells job = no_read n q settings job tells.0
+
   -- nor of right words and a right profile
-  pub no_fault_of_profile : (what : Fault) (file bytes : List ℕ) (profile : Profile) → FaultTells left faults words old new what → asked_of words ≡ Names (Dump file)
+  long_text : (file bytes : List ℕ) → HeldTooMuch left faults words old new → job_of words ≡ Names (Dump file) → left old ≡ Some bytes → length bytes ≤ 67108864 → ⊥
+  long_text file bytes (inl run) job held few = no_run file run.0.0 run.0.1 job run.0.2
+  long_text file bytes (inr text) job held few = accepted_long 67108864 (left old) bytes held few text.1.0
+
+  pub no_fault_of_profile : (what : Fault) (file bytes : List ℕ) (profile : Profile) → FaultTells left faults words old new what → job_of words ≡ Names (Dump file)
       → left old ≡ Some bytes → length bytes ≤ 67108864 → reading.value_of bytes ≡ reading.Gives profile → (Rose (faults old) (faults new) → ⊥) → ⊥
-  no_fault_of_profile (Usage place cause) file bytes profile tells job held few gives well = let e = sym tells.0 ∙ job in absurd cc
-  no_fault_of_profile (Line line number) file bytes profile tells job held few gives well =
-      no_run_and_text words tells.0.0 file tells.0.1 tells.0.2 job
+  no_fault_of_profile (Usage place cause) file bytes profile tells job held few gives well = let e = sym tells.0 ∙ asked_dump words file job in absurd cc
+  no_fault_of_profile (Line line number) file bytes profile tells job held few gives well = no_run file tells.0.0 tells.0.1 job tells.0.2
   no_fault_of_profile (At at number) file bytes profile tells job held few gives well = accepted_profile (left old) bytes profile at tells.1.0.0 held gives tells.1.0.2
-  no_fault_of_profile Long file bytes profile tells job held few gives well =
-      let same : tells.0 ≡ Dump file = one_job words tells.0 (Dump file) tells.1 job in
-      accepted_long 67108864 (left old) bytes held few (subst (λ (j : Job). IsTooLong (limit_of j) (left old)) same tells.2)
+  no_fault_of_profile Long file bytes profile tells job held few gives well = long_text file bytes tells job held few
   no_fault_of_profile Read file bytes profile tells job held few gives well = well tells.1

@@ -1,15 +1,20 @@
 -- What a report tells of the journal of a run.
-use Rattle.std.proofs.Common.{◌≡◌, ◌≤◌, ◌<◌, ◌+◌, inl, inr, ℕ, List, [], ◌∷◌, ◌++◌, length, get_or, take, map, refl, sym, ap, subst, ◌∙◌, arith}
+use Rattle.std.proofs.Common.{◌≡◌, ◌≤◌, ◌<◌, ◌+◌, ◌^◌, inl, inr, ℕ, List, [], ◌∷◌, ◌++◌, length, get_or, take, map, refl, sym, ap, subst, ◌∙◌, arith}
 use Rattle.std.proofs.lemmas.Bool.{cases_lt}
 use Rattle.std.proofs.lemmas.List.{get_or_append_left, get_or_push, length_push, length-map, get_or-map, take_more, take_all}
+use Rattle.gp_isa.specs.declared.parts.Parts.{Parts}
+use Rattle.gp_events.specs.Event.{Event}
+use Rattle.gp_events.specs.declared.sum.Sum.{Sum}
+use Rattle.gp_events.specs.Order.{sums_in_order}
+use Rattle.gp_events.specs.Sums.{sums}
 use Rattle.gp_journal.specs.declared.entry.Entry.{Entry}
 use Rattle.gp_journal.specs.declared.entry.Entry.TheVariants.{Open, Refuse, Record, Close}
 use Rattle.gp_journal.specs.declared.goroutine.Worker.{Worker}
 use Rattle.gp_journal.specs.declared.settings.Settings.{Settings}
 use Rattle.gp_machine.specs.Settings.{AreInRange}
-use Rattle.gp_machine.specs.State.{Code, State, first, resting}
+use Rattle.gp_machine.specs.State.{Code, State, code_of, first, resting}
 use Rattle.gp_machine.specs.Effect.{after}
-use Rattle.gp_machine.specs.Run.{IsLegal, last}
+use Rattle.gp_machine.specs.Run.{IsLegal, last, state_of}
 use Rattle.gp_machine.specs.Frozen.{rows_taken}
 use Rattle.gp_journal.specs.Actors.{made_by}
 use Rattle.gp_journal.proofs.Lemmas.{kept_at}
@@ -21,6 +26,18 @@ refusals_more [] x = refl
 refusals_more (Refuse room n ∷ xs) x = ap (λ l. (room, n) ∷ l) (refusals_more xs x)
 refusals_more (y ∷ xs) x = refusals_more xs x
 
+-- sums of a run's events that were put in order, and a clock, by the journal of its report
+module _ (program given : Parts) (settings : Settings) (machine journal : List Entry) (same : given ≡ program) (is : journal ≡ machine) where
+  pub ordered_sums : (events : Code → Settings → List Entry → List Event) (made ordered : List Sum) → ordered ≡ sums_in_order given made
+      → made ≡ sums (events (code_of program) settings machine) → ordered ≡ sums_in_order program (sums (events (code_of program) settings journal))
+  ordered_sums events made ordered in_order are =
+      in_order
+      ∙ (ap (λ p. sums_in_order p made) same
+      ∙ (ap (sums_in_order program) are ∙ ap (λ j. sums_in_order program (sums (events (code_of program) settings j))) (sym is)))
+
+  pub journal_clock : (clock : ℕ) → clock ≡ (state_of program settings machine).clock → clock ≡ (state_of program settings journal).clock
+  journal_clock clock told = told ∙ ap (λ j. (state_of program settings j).clock) (sym is)
+
 -- an entry that is no Refuse
 pub none_refused : (x : Entry) → ((room n : ℕ) → x ≡ Refuse room n → ⊥) → refusals (x ∷ []) ≡ []
 none_refused (Refuse room n) isnt = absurd (isnt room n refl)
@@ -31,6 +48,17 @@ pub number_of_workers : (code : Code) (settings given : Settings) (journal : Lis
     → length (last code settings journal).workers ≡ given.workers
 number_of_workers code settings given journal same range legal =
     (kept_at code settings journal (subst AreInRange same range) legal).numbered.number ∙ sym (ap (λ (s : Settings). s.workers) same)
+
+-- the clock of a legal journal is far from its type's end
+pub clock_fits : (code : Code) (settings : Settings) (journal : List Entry) → AreInRange settings → IsLegal code settings journal → (last code settings journal).clock < 2 ^ 53
+clock_fits code settings journal range legal =
+    let kept = kept_at code settings journal range legal in
+    let bound = kept.numbered.bound in
+    let few = kept.bounded.few in
+    let a = range.entries in
+    let b = range.cells in
+    let c = range.workers in
+    omega arith
 
 abbrev pub instructions_of : Worker → ℕ
 instructions_of worker = worker.instructions

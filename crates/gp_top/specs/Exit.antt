@@ -3,7 +3,8 @@ use Rattle.std.specs.Prelude.{ℕ}
 use Rattle.gp_report.specs.declared.refusal.Fault.{Fault}
 use Rattle.gp_report.specs.declared.refusal.Fault.TheVariants.{Usage, Line, At, Long, Read}
 
--- The run ended by `main`, no profile was refused, and all files were put; or the text of a profile was written.
+-- The run ended by `main`, no profile was refused, all files were put and the summary was written; or the text of a profile was
+-- written.
 abbrev pub exit_done : ℕ
 exit_done = 0
 

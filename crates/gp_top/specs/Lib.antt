@@ -2,5 +2,8 @@ pub mod Report
 pub mod Exit
 pub mod Status
 pub mod Files
+pub mod Putting
+pub mod Task
+pub mod Asked
 pub mod Top
 pub mod kept

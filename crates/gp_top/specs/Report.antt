@@ -10,8 +10,13 @@ use Rattle.gp_journal.specs.State.{code_of, births, live}
 use Rattle.gp_journal.specs.Due.{ended}
 use Rattle.gp_journal.specs.Actors.{made_by}
 use Rattle.gp_journal.specs.Run.{state_of, IsFinished}
-use Rattle.gp_sim.specs.Choice.{sim_journal}
 use Rattle.gp_journal.specs.Profiles.{AreFrozen}
+use Rattle.gp_ring.specs.Records.{RingRecord, Covers}
+use Rattle.gp_cpu.specs.Records.{ring_record_of}
+use Rattle.gp_cpu.specs.Samples.{samples_of_journal}
+use Rattle.gp_cpu.specs.declared.record.CpuRecord.{CpuRecord}
+use Rattle.gp_sim.specs.Choice.{sim_journal, sim_records}
+use Rattle.gp_sim.specs.ChoiceLaw.{BeginWithHead}
 use Rattle.gp_report.specs.declared.report.Report.{Report}
 
 -- the goroutines that the Record entries up to the first Close name, in their order
@@ -31,6 +36,10 @@ recorded_ids (entry ∷ entries) = recorded_ids entries
 abbrev pub ids : List Row → List ℕ
 ids rows = map (λ (row : Row). row.g) rows
 
+-- what the reader took, as records of the ring
+abbrev pub ring_records : List CpuRecord → List RingRecord
+ring_records records = map ring_record_of records
+
 -- the room and the number of live goroutines of each Refuse entry
 abbrev pub refusals : List Entry → List (ℕ × ℕ)
 refusals [] = []
@@ -42,17 +51,24 @@ pub record AreMade (settings : Settings) (journal : List Entry) (made : List ℕ
   pub actors : length made ≡ settings.workers + 1
   pub each : (actor : ℕ) → actor ≤ settings.workers → get_or made actor 0 ≡ made_by settings actor journal
 
--- The report of a run of a program under its options. The journal is legal, complete, and the one that the choice by
--- numbers gives. Each Open has its list of records, which names those that the Record entries name, and which sorted is
--- that of all goroutines live at that Open. What else is told is told by the state after all entries.
+-- The report of a run of a program under its options.
 pub record IsReport (program : Parts) (settings : Settings) (report : Report) : Type 0 where
+  -- The journal is legal, and the run complete.
   pub finished : IsFinished (code_of program) settings report.journal
-  pub chosen : report.journal ≡ sim_journal (code_of program) settings
+  -- Each Open has its list of records, which names those that the Record entries name, and which sorted is that of all
+  -- goroutines live at that Open.
   pub recorded : map ids report.goroutine_records ≡ recorded_ids report.journal
   pub frozen : AreFrozen (code_of program) settings report.journal report.goroutine_records
+  -- Each sample of the journal was delivered, or counted lost once, in order; those of the head for the run's ring were delivered.
+  pub covered : Covers (ring_records report.cpu_records) (samples_of_journal (code_of program) settings report.journal)
+  pub begun : BeginWithHead program settings report.journal (ring_records report.cpu_records)
+  -- What else is told is told by the journal, and by the state after all entries.
   pub refused_are : report.refused ≡ refusals report.journal
   pub done_are : report.done ≡ map (λ (worker : Worker). worker.instructions) (state_of program settings report.journal).workers
   pub made_are : AreMade settings report.journal report.made
   pub ended_is : report.ended ≡ ended (state_of program settings report.journal)
   pub born_are : report.born ≡ births (state_of program settings report.journal)
   pub live_are : report.live ≡ live (state_of program settings report.journal)
+  -- The journal and the CPU records are those of the choice by numbers.
+  pub chosen : report.journal ≡ sim_journal program settings
+  pub read : ring_records report.cpu_records ≡ sim_records program settings

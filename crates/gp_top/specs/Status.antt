@@ -4,7 +4,6 @@ use Rattle.gp_isa.specs.declared.parts.Parts.{Parts}
 use Rattle.gp_journal.specs.declared.entry.Ended.{Ended}
 use Rattle.gp_journal.specs.declared.entry.Ended.TheVariants as ended
 use Rattle.gp_journal.specs.declared.settings.Settings.{Settings}
-use Rattle.gp_journal.specs.State.{code_of}
 use Rattle.gp_journal.specs.Due as machine
 use Rattle.gp_journal.specs.Run.{state_of}
 use Rattle.gp_sim.specs.Choice.{sim_journal}
@@ -31,5 +30,5 @@ status_of report = status_of_end report.refused report.ended
 -- The status that a program's run under its options comes to.
 abbrev pub status_of_run : Parts → Settings → ℕ
 status_of_run program settings =
-    let journal = sim_journal (code_of program) settings in
+    let journal = sim_journal program settings in
     status_of_end (refusals journal) (machine.ended (state_of program settings journal))

@@ -1,10 +1,17 @@
 //! The top call: command words and a program file in, profiles out.
 //!
-//! [`plain_top`] goes one way. The words name a file and options (`gp_words`). The source is read to its end, and its
-//! bytes give a program (`gp_text`) or are refused (`load`). The program is run in the order that the options' numbers
-//! choose (`gp_sim`), and what the run tells is its report (`report`). Each goroutine profile that was opened, and then the block
-//! profile and the mutex profile (`gp_build`), becomes bytes (`gp_wire`) and is put into the store (`save`). How all that went is the exit status (`finish`). What stops
-//! this before the run (`stop`) ends it, and where that isn't want of memory its line is written to the sink (`gp_report`):
+//! For `sim` and `gen` [`plain_top`] goes one way. The words name a file, or two numbers, and options (`gp_words`). The source
+//! is read to its end, and its bytes give a program (`gp_text`) or are refused (`load`); or the program is made of the numbers
+//! (`gp_gen`) and its text is put as `gen.gp` (`generate`). The program is run in the order that the options' numbers choose
+//! (`gp_sim`), and what the run tells is its report (`report`). Each goroutine profile that was opened, and then the CPU
+//! profile, the block profile and the mutex profile (`gp_build`), becomes bytes (`gp_wire`) and is put into the store (`save`);
+//! then the summary (`gp_report`) is written to the sink. How all that went is the exit status (`finish`).
+//!
+//! `dump` goes another way (`dumping`): the source is read to its end, its bytes give a profile (`gp_wire`) or are refused, and
+//! the text of what it means (`gp_build`, `gp_report`) is written to the sink.
+//!
+//! What stops a job before its run, or before its text (`stop`), ends it, and where that isn't want of memory its line is
+//! written to the sink (`gp_report`):
 //!
 //! ```text
 //! words          sim a.gp --room 1 --room 1        sim a.gp                  sim b.gp
@@ -14,18 +21,24 @@
 //! status         1                                 2                         3
 //! ```
 //!
-//! What the call promises is in `specs/Top.antt`, to be read last: `Report` says what a report tells of its journal,
-//! `Status` which status a run comes to, and `Files` which files it puts.
+//! What the call promises is in `specs/Top.antt`, to be read last: `Report` says what a report tells of its journal, `Exit`
+//! what each exit status means and `Status` which one a run comes to, `Files` which files it puts and what its summary is,
+//! `Putting` what a store and a sink tell of that, `Task` what is run, and `Asked` what the words ask for.
 #![tactic(auto)]
 
 mod dumping;
 mod finish;
+mod generate;
 mod load;
+mod outcome;
 mod report;
+mod running;
 mod save;
 pub mod status;
 mod stop;
 mod top;
+mod totals;
 
 pub use gp_report::Report;
-pub use top::{Outcome, plain_top};
+pub use outcome::Outcome;
+pub use top::plain_top;

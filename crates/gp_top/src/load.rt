@@ -1,7 +1,7 @@
 ghost use Rattle.std.specs.Prelude.{◌≡◌, None, IfOk, IfErr, OnOk};
 ghost use Rattle.gp_isa.specs.Limits.{file_bytes};
 ghost use Rattle.gp_wire.specs.Valid.{cause_of};
-ghost use Rattle.gp_top.specs.Top.{IsAccepted, IsProfile, IsReadTo, profile_bytes};
+ghost use Rattle.gp_top.specs.Asked.{IsAccepted, IsProfile, IsReadTo, profile_bytes};
 ghost use Rattle.gp_top.specs.kept.Steps.{LoadStops, ProfileStops};
 
 use crate::stop::Stop;

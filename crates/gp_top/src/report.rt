@@ -1,16 +1,19 @@
-ghost use Rattle.std.specs.Prelude.{◌≡◌, ◌≤◌, IfOk, map};
+ghost use Rattle.std.specs.Prelude.{◌≡◌, ◌<◌, ◌^◌, IfOk, map};
 ghost use Rattle.gp_journal.specs.declared.goroutine.Worker.{Worker};
 ghost use Rattle.gp_machine.specs.Settings.{AreInRange};
 ghost use Rattle.gp_machine.specs.State.{code_of};
 ghost use Rattle.gp_machine.specs.Run.{state_of, IsFinished};
-ghost use Rattle.gp_sim.specs.Choice.{sim_journal};
+ghost use Rattle.gp_sim.specs.Choice.{sim_journal, sim_records};
+ghost use Rattle.gp_sim.specs.ChoiceLaw.{BeginWithHead};
 ghost use Rattle.gp_journal.specs.Profiles.{records_of};
-ghost use Rattle.gp_events.specs.Sums.{sums};
-ghost use Rattle.gp_history.specs.Events.{block_events, mutex_events};
+ghost use Rattle.gp_ring.specs.Records.{Covers};
+ghost use Rattle.gp_cpu.specs.Samples.{samples_of_journal};
 ghost use Rattle.gp_top.specs.Report as definition;
-ghost use Rattle.gp_top.specs.Report.{AreMade, IsReport};
+ghost use Rattle.gp_top.specs.Report.{AreMade, IsReport, ring_records};
+ghost use Rattle.gp_top.specs.kept.Steps.{IsRan};
 
-use gp_events::Buckets;
+use gp_cpu::CpuRecords;
+use gp_events::Sums;
 use gp_isa::{Memory, Program, Sequence};
 use gp_machine::{Counts, Entry, Machine, Refusals, Run, Settings};
 use gp_report::Report;
@@ -19,12 +22,14 @@ use gp_stack::Profiles;
 use std::alloc::Global;
 use std::marker::Brand;
 
-/// A run that is complete: its report, and the sums of its block and of its mutex events.
+/// What is left of a run that is complete: its report, its clock, and the sums of its block and of its mutex events, in the
+/// order of a profile.
 #[derive(Drop)]
 pub(crate) struct Ran {
     pub report: Report,
-    pub block: Buckets,
-    pub mutex: Buckets,
+    pub clock: u64,
+    pub block: Sums,
+    pub mutex: Sums,
 }
 
 // The room and the number of live goroutines of each Refuse entry.
@@ -81,13 +86,17 @@ fn report_on<R: Run>(
     alloc: Global,
     settings: &Settings,
     machine: Machine<R>,
-    records: Profiles,
+    goroutine_records: Profiles,
+    cpu_records: CpuRecords,
 ) -> Result<Report, Memory>
     requires settings { settings.now ≡ R.settings }
     requires range { AreInRange settings.now }
     requires finished { IsFinished (code_of R.program) R.settings machine }
-    requires chosen { machine ≡ sim_journal (code_of R.program) R.settings }
-    requires records { records ≡ records_of (code_of R.program) R.settings machine }
+    requires chosen { machine ≡ sim_journal R.program R.settings }
+    requires records { goroutine_records ≡ records_of (code_of R.program) R.settings machine }
+    requires covered { Covers (ring_records cpu_records) (samples_of_journal (code_of R.program) R.settings machine) }
+    requires begun { BeginWithHead R.program R.settings machine (ring_records cpu_records) }
+    requires read { ring_records cpu_records ≡ sim_records R.program R.settings }
     ensures report { IfOk result (IsReport R.program R.settings) }
     ensures journal { IfOk result (λ report. report.journal ≡ machine) }
 {
@@ -99,7 +108,8 @@ fn report_on<R: Run>(
     let live = machine.live();
     Ok(Report {
         journal: machine.into_journal(),
-        goroutine_records: records,
+        cpu_records,
+        goroutine_records,
         refused,
         done,
         made,
@@ -109,35 +119,45 @@ fn report_on<R: Run>(
     })
 }
 
+// The clock of a run.
+fn clock<R: Run>(machine: &Machine<R>) -> u64
+    requires { AreInRange R.settings }
+    ensures clock { result ≡ (state_of R.program R.settings machine.now).clock }
+    ensures fits { result < 2 ^ 53 }
+{
+    // (it has no effect, but tells that the journal is legal)
+    let _ = machine.journal();
+    machine.clock()
+}
+
 fn run_named<R: Run>(alloc: Global, program: &Program, settings: &Settings) -> Result<Ran, Memory>
     requires program { program.now ≡ R.program }
     requires settings { settings.now ≡ R.settings }
     requires range { AreInRange settings.now }
-    ensures report { IfOk result (λ ran. IsReport R.program R.settings ran.report) }
-    ensures block { IfOk result (λ ran. ran.block ≡ sums (block_events (code_of R.program) R.settings ran.report.journal)) }
-    ensures mutex { IfOk result (λ ran. ran.mutex ≡ sums (mutex_events (code_of R.program) R.settings ran.report.journal)) }
+    ensures { IfOk result (IsRan R.program R.settings) }
 {
     let Simulated {
         machine,
         records,
         block,
         mutex,
+        cpu,
         ..
     } = simulate::<R>(alloc, program, settings)?;
-    let report = report_on(alloc, settings, machine, records)?;
+    let clock = clock(&machine);
+    let report = report_on(alloc, settings, machine, records, cpu.into_records())?;
     Ok(Ran {
         report,
-        block,
-        mutex,
+        clock,
+        block: block.sorted(alloc, program)?,
+        mutex: mutex.sorted(alloc, program)?,
     })
 }
 
 /// Runs a program in the order that its options' numbers choose, to the end, and reports on it.
 pub(crate) fn run(alloc: Global, program: &Program, settings: &Settings) -> Result<Ran, Memory>
     requires { AreInRange settings.now }
-    ensures report { IfOk result (λ ran. IsReport program.now settings.now ran.report) }
-    ensures block { IfOk result (λ ran. ran.block ≡ sums (block_events (code_of program.now) settings.now ran.report.journal)) }
-    ensures mutex { IfOk result (λ ran. ran.mutex ≡ sums (mutex_events (code_of program.now) settings.now ran.report.journal)) }
+    ensures { IfOk result (IsRan program.now settings.now) }
 {
     run_named::<Brand>(alloc, program, settings)
 }

@@ -1,4 +1,5 @@
-/// The run ended by `main`, no profile was refused, and all files were put; or the text of a profile was written.
+/// The run ended by `main`, no profile was refused, all files were put and the summary was written; or the text of a profile
+/// was written.
 pub const DONE: u8 = 0;
 
 /// The words give no job.

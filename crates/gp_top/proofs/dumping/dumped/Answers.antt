@@ -7,6 +7,6 @@ pub returns-clause-dump : goal.returns-clause-dump
 returns-clause-dump g c = record {
   profile = c.in_ok-profile.profile;
   accepted = c.in_ok-profile.ensures.accepted;
-  told = subst (λ text. IsTold text (g.O.Sink.written c.args.out.now, g.O.Sink.faults c.args.out.now) (g.O.Sink.written c.told.new.out, g.O.Sink.faults c.told.new.out) c.told.result)
-      (c.as_bytes.ensures ∙ c.in_ok-text.ensures ∙ ap dump_text c.in_ok-meant.ensures) c.told.ensures;
+  told = subst (λ text. IsTold text 0 (g.O.Sink.written c.args.out.now, g.O.Sink.faults c.args.out.now) (g.O.Sink.written c.tell.new.out, g.O.Sink.faults c.tell.new.out) c.tell.result)
+      (c.as_bytes.ensures ∙ c.in_ok-text.ensures ∙ ap dump_text c.in_ok-meant.ensures) c.tell.ensures;
 }

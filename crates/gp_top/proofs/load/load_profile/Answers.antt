@@ -1,7 +1,6 @@
 use Rattle.std.proofs.Common.{ap, sym, Err}
 use Rattle.gp_top.specs.kept.Steps.{stop_of_read, stop_of_profile, ProfileStops}
 use Rattle.gp_top.proofs.Loading.{whole_read, carried, profile_read, profile_refused}
-use Rattle.gp_top.proofs.Given.{given_whole}
 use Rattle.gp_top.proofs.load.load_profile.Goals as goal
 
 pub returns-in_err-bytes-clause-stopped : goal.returns-in_err-bytes-clause-stopped
@@ -35,6 +34,3 @@ returns-clause-accepted g c = record {
   few = c.in_ok-bytes.ensures.within;
   gives = rw (sym c.as_slice.ensures) c.in_ok-decode.ensures.ok;
 }
-
-pub returns-clause-valid : goal.returns-clause-valid
-returns-clause-valid g c = given_whole c.as_slice.result.now c.in_ok-decode.field-0 c.in_ok-decode.ensures.ok

@@ -8,13 +8,16 @@ use Rattle.gp_top.proofs.report.report_on.Goals as goal
 pub returns-clause-report : goal.returns-clause-report
 returns-clause-report g c = rw (c.into_journal.ensures.journal) (record {
   finished = c.requires.finished;
-  chosen = c.requires.chosen;
   recorded = rw c.requires.records (are_recorded (code_of g.R.Run.program) g.R.Run.settings c.args.machine);
   frozen = rw c.requires.records (records_are_frozen (code_of g.R.Run.program) g.R.Run.settings c.args.machine c.requires.finished.legal c.requires.finished.complete.none_active);
+  covered = c.requires.covered;
+  begun = c.requires.begun;
   refused_are = c.in_ok-refused.ensures ∙ ap refused_of c.journal.ensures.journal;
   done_are = c.in_ok-done.ensures;
   made_are = c.in_ok-made.ensures;
   ended_is = c.ended-ended.ensures;
   born_are = c.births-born.ensures;
   live_are = c.live-live.ensures;
+  chosen = c.requires.chosen;
+  read = c.requires.read;
 })

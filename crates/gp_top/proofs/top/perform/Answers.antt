@@ -1,11 +1,15 @@
-use Rattle.std.proofs.Common.{sym, subst, ◌≡◌, ◌⊎◌}
+use Rattle.std.proofs.Common.{sym, subst, ◌≡◌}
+use Rattle.std.proofs.lemmas.Result.{IfOk-weaker, IfErr-weaker}
 use Rattle.gp_words.specs.Words.{texts}
-use Rattle.gp_words.specs.declared.jobs.Job.TheVariants.{Sim, Dump}
+use Rattle.gp_words.specs.declared.jobs.Job.TheVariants.{Sim, Gen, Dump}
 use Rattle.gp_words.specs.Job.{job_of}
 use Rattle.gp_words.specs.Read.{Names}
-use Rattle.gp_top.specs.Status.{status_of_run}
-use Rattle.gp_top.specs.Top.{asked_of, IsDump}
-use Rattle.gp_top.proofs.Asking.{asked_names, asked_sim, only_built, settings_same, no_run_and_text}
+use Rattle.gp_top.specs.Asked.{asked_of}
+use Rattle.gp_top.specs.Putting.{Told, Sunk}
+use Rattle.gp_top.specs.kept.Steps.{RunStops}
+use Rattle.gp_top.proofs.Asking.{asked_names, never_run, file_not_numbers, text_not_numbers}
+use Rattle.gp_top.proofs.Heading.{file_runs, numbers_runs, dumped_bare}
+use Rattle.gp_top.proofs.Loading.{carried, stopped_load, stopped_profile}
 use Rattle.gp_top.proofs.top.perform.Goals as goal
 
 pub returns-in-Sim-clause-headline : goal.returns-in-Sim-clause-headline
@@ -13,30 +17,92 @@ returns-in-Sim-clause-headline g c =
     let words = texts c.args.words.now in
     let settings = c.in-Sim.settings in
     let job = asked_names words (Sim c.in-Sim.file settings) (subst (λ job. asked_of words ≡ Names job) c.in-Sim.is c.in_ok-job.ensures.ok) in
-    c.in_ok-status-in-Sim.ensures.headline words (subst (λ file. job_of words ≡ Names (Sim file settings)) (sym c.as_str.ensures) job)
+    let before : Told = (g.K.Store.files c.args.store.now, g.K.Store.asked c.args.store.now, g.K.Store.faults c.args.store.now) in
+    let after : Told = (g.K.Store.files c.simulated.new.store, g.K.Store.asked c.simulated.new.store, g.K.Store.faults c.simulated.new.store) in
+    let sink_before : Sunk = (g.O.Sink.written c.args.out.now, g.O.Sink.faults c.args.out.now) in
+    let sink_after : Sunk = (g.O.Sink.written c.simulated.new.out, g.O.Sink.faults c.simulated.new.out) in
+    IfOk-weaker c.simulated.result _ _
+    (λ done came.
+    file_runs words (g.S.Source.left c.args.source.now) before after sink_before sink_after done.status c.as_str.result.now settings done.report
+    (subst (λ file. job_of words ≡ Names (Sim file settings)) (sym c.as_str.ensures) job) came)
+    c.simulated.ensures.run
 
-pub returns-in-Sim-clause-ended : goal.returns-in-Sim-clause-ended
-returns-in-Sim-clause-ended g c = λ name bytes yours program job held gives none.
+pub returns-in-Sim-clause-unread : goal.returns-in-Sim-clause-unread
+returns-in-Sim-clause-unread g c = λ n q ask.
     let words = texts c.args.words.now in
-    let status = c.in_ok-status-in-Sim.status in
+    let job = asked_names words (Sim c.in-Sim.file c.in-Sim.settings) (subst (λ job. asked_of words ≡ Names job) c.in-Sim.is c.in_ok-job.ensures.ok) in
+    absurd (file_not_numbers words c.in-Sim.file c.in-Sim.settings n q job ask)
+
+pub returns-in-Sim-clause-stopped : goal.returns-in-Sim-clause-stopped
+returns-in-Sim-clause-stopped g c =
+    let words = texts c.args.words.now in
     let asked = subst (λ job. asked_of words ≡ Names job) c.in-Sim.is c.in_ok-job.ensures.ok in
-    subst (λ settings. (status ≡ status_of_run program settings) ⊎ (status ≡ 9)) (settings_same words c.in-Sim.file name c.in-Sim.settings yours asked job)
-    (c.in_ok-status-in-Sim.ensures.ended bytes program held gives none)
+    IfErr-weaker c.simulated.result _ _
+    (λ stop tells. stopped_load g.S.Source.left g.S.Source.faults words c.args.source.now c.simulated.new.source stop c.in-Sim.file c.in-Sim.settings asked tells) c.simulated.ensures.stopped
 
-pub returns-in-Dump-clause-dump : goal.returns-in-Dump-clause-dump
-returns-in-Dump-clause-dump g c = λ _.
-    let words = texts c.args.words.now in record {
-      file = c.in-Dump.file;
-      job = asked_names words (Dump c.in-Dump.file) (subst (λ job. asked_of words ≡ Names job) c.in-Dump.is c.in_ok-job.ensures.ok);
-      dump = subst (λ status. IsDump (g.S.Source.left c.args.source.now) (g.O.Sink.written c.args.out.now, g.O.Sink.faults c.args.out.now) (g.O.Sink.written c.dumped.new.out, g.O.Sink.faults c.dumped.new.out) status)
-          (sym c.without_report.ensures.status) c.in_ok-status-in-Dump.ensures.dump;
-    }
-
-pub returns-in-Dump-clause-ended : goal.returns-in-Dump-clause-ended
-returns-in-Dump-clause-ended g c = λ name bytes yours program job held gives none.
+pub returns-in-Gen-clause-headline : goal.returns-in-Gen-clause-headline
+returns-in-Gen-clause-headline g c =
     let words = texts c.args.words.now in
-    absurd (no_run_and_text words name c.in-Dump.file yours (asked_sim words name yours job) (subst (λ job. asked_of words ≡ Names job) c.in-Dump.is c.in_ok-job.ensures.ok))
+    let n = c.in-Gen.n in
+    let q = c.in-Gen.q in
+    let settings = c.in-Gen.settings in
+    let job = asked_names words (Gen n q settings) (subst (λ job. asked_of words ≡ Names job) c.in-Gen.is c.in_ok-job.ensures.ok) in
+    let before : Told = (g.K.Store.files c.args.store.now, g.K.Store.asked c.args.store.now, g.K.Store.faults c.args.store.now) in
+    let after : Told = (g.K.Store.files c.generate.new.store, g.K.Store.asked c.generate.new.store, g.K.Store.faults c.generate.new.store) in
+    let sink_before : Sunk = (g.O.Sink.written c.args.out.now, g.O.Sink.faults c.args.out.now) in
+    let sink_after : Sunk = (g.O.Sink.written c.generate.new.out, g.O.Sink.faults c.generate.new.out) in
+    numbers_runs words (g.S.Source.left c.args.source.now) before after sink_before sink_after c.generate.result.status n q settings c.generate.result.report job c.generate.ensures.run
+
+pub returns-in-Gen-clause-no_report : goal.returns-in-Gen-clause-no_report
+returns-in-Gen-clause-no_report g c = λ none.
+    let words = texts c.args.words.now in
+    let n = c.in-Gen.n in
+    let q = c.in-Gen.q in
+    let settings = c.in-Gen.settings in
+    let job = asked_names words (Gen n q settings) (subst (λ job. asked_of words ≡ Names job) c.in-Gen.is c.in_ok-job.ensures.ok) in
+    c.generate.ensures.no_report none words (g.S.Source.left c.args.source.now) (record { settings = settings; job = job })
+
+pub returns-in-Gen-clause-nothing_put : goal.returns-in-Gen-clause-nothing_put
+returns-in-Gen-clause-nothing_put g c = λ none other.
+    let words = texts c.args.words.now in
+    let n = c.in-Gen.n in
+    let q = c.in-Gen.q in
+    let settings = c.in-Gen.settings in
+    let job = asked_names words (Gen n q settings) (subst (λ job. asked_of words ≡ Names job) c.in-Gen.is c.in_ok-job.ensures.ok) in
+    absurd (other n q (record { settings = settings; job = job }))
+
+pub returns-in_err-status-in-Dump-clause-unread : goal.returns-in_err-status-in-Dump-clause-unread
+returns-in_err-status-in-Dump-clause-unread g c = λ n q ask.
+    let words = texts c.args.words.now in
+    let job = asked_names words (Dump c.in-Dump.file) (subst (λ job. asked_of words ≡ Names job) c.in-Dump.is c.in_ok-job.ensures.ok) in
+    absurd (text_not_numbers words c.in-Dump.file n q job ask)
+
+pub returns-in_err-status-in-Dump-clause-stopped : goal.returns-in_err-status-in-Dump-clause-stopped
+returns-in_err-status-in-Dump-clause-stopped g c =
+    let words = texts c.args.words.now in
+    let asked = subst (λ job. asked_of words ≡ Names job) c.in-Dump.is c.in_ok-job.ensures.ok in
+    let stop = c.in_err-status-in-Dump.field-0.0 in
+    carried c.from_residual-in_err-status-in-Dump.result stop (RunStops g.S.Source.left g.S.Source.faults words c.args.source.now c.dumped.new.source)
+    c.from_residual-in_err-status-in-Dump.ensures.1
+    (stopped_profile g.S.Source.left g.S.Source.faults words c.args.source.now c.dumped.new.source stop c.in-Dump.file asked c.in_err-status-in-Dump.ensures.stopped)
+
+pub returns-in-Dump-clause-no_report : goal.returns-in-Dump-clause-no_report
+returns-in-Dump-clause-no_report g c = λ none.
+    let words = texts c.args.words.now in
+    let job = asked_names words (Dump c.in-Dump.file) (subst (λ job. asked_of words ≡ Names job) c.in-Dump.is c.in_ok-job.ensures.ok) in
+    let before : Told = (g.K.Store.files c.args.store.now, g.K.Store.asked c.args.store.now, g.K.Store.faults c.args.store.now) in
+    let sink_before : Sunk = (g.O.Sink.written c.args.out.now, g.O.Sink.faults c.args.out.now) in
+    let sink_after : Sunk = (g.O.Sink.written c.dumped.new.out, g.O.Sink.faults c.dumped.new.out) in
+    dumped_bare words (g.S.Source.left c.args.source.now) before sink_before sink_after c.in_ok-status-in-Dump.status c.without_report.result.status
+    c.without_report.ensures.status c.in-Dump.file job c.in_ok-status-in-Dump.ensures.dump
+
+pub returns-in-Dump-clause-unread : goal.returns-in-Dump-clause-unread
+returns-in-Dump-clause-unread g c = λ n q ask.
+    let words = texts c.args.words.now in
+    let job = asked_names words (Dump c.in-Dump.file) (subst (λ job. asked_of words ≡ Names job) c.in-Dump.is c.in_ok-job.ensures.ok) in
+    absurd (text_not_numbers words c.in-Dump.file n q job ask)
 
 pub returns-clause-stopped : goal.returns-clause-stopped
 returns-clause-stopped g c =
-    absurd (only_built (texts c.args.words.now) c.in_ok-job.job c.in_ok-job.ensures.ok c.in_default.not-Sim c.in_default.not-Dump)
+    let words = texts c.args.words.now in
+    absurd (never_run words c.in-Run.file c.in-Run.settings (subst (λ job. asked_of words ≡ Names job) c.in-Run.is c.in_ok-job.ensures.ok))

@@ -1,5 +1,5 @@
 use Rattle.std.proofs.Common.{inl, inr, refl}
-use Rattle.gp_top.proofs.dumping.told.Goals as goal
+use Rattle.gp_top.proofs.finish.tell.Goals as goal
 
 pub returns-in-Ok : goal.returns-in-Ok
 returns-in-Ok g c = inl (refl, (c.in-Ok.ensures.whole, c.in-Ok.ensures.well))
