@@ -17,6 +17,7 @@ mod programs;
 mod readings;
 mod samples;
 mod sequences;
+mod ticks;
 mod waits;
 
 use gp_cases::{Page, Teller, Unanswered, walk, word};
@@ -58,6 +59,7 @@ impl Teller for OfProfiles {
             "sums" => events::sums(alloc, page, rest, rows),
             "contentions" => events::contentions(alloc, page, rest, rows),
             "keeps" => events::keeps(page, rest),
+            "ticks" => ticks::ticks(alloc, page, rest, rows),
             _ => messages::message(alloc, page, rows),
         }
     }
@@ -70,5 +72,6 @@ fn main(rt: HostRuntime) -> Result<(), Unanswered> {
     walk::<OfPrograms>(&rt, "bodies.txt")?;
     walk::<OfProfiles>(&rt, "profiles.txt")?;
     walk::<OfProfiles>(&rt, "bytes.txt")?;
-    walk::<OfProfiles>(&rt, "events.txt")
+    walk::<OfProfiles>(&rt, "events.txt")?;
+    walk::<OfProfiles>(&rt, "ticks.txt")
 }

@@ -1,14 +1,16 @@
 //! Cases of the outside, of command words, of the machine and of whole runs. They stand in the files of `data/`, each with
-//! what has to come of it, which was worked out by hand from the rules of the machine; the words of the generator, and the
-//! bytes of profiles, come from other programs.
+//! what has to come of it. That was worked out by hand from the rules of the machine, or, as runs in an order that numbers choose
+//! and the bytes of profiles, by other programs.
 //!
 //! What the real source, store and output do is printed behind the cases.
 #![tactic(auto)]
 
+mod devices;
 mod memory;
 mod one_byte;
 mod real;
 mod runs;
+mod telling;
 mod tops;
 mod words;
 
@@ -32,6 +34,8 @@ impl Teller for OfRuns {
             "writes" => memory::writes(alloc, page, rows),
             "whole" => memory::writes_whole(alloc, page, rows),
             "told" => tops::told(alloc, page, rest, rows),
+            "each-write" => tops::writes(alloc, page, rest, rows),
+            "twice" => tops::twice(alloc, page, rest, rows),
             _ => tops::top(alloc, page, rest, rows),
         }
     }
@@ -42,5 +46,8 @@ fn main(rt: HostRuntime) -> Result<(), Unanswered> {
     walk::<OfRuns>(&rt, "words.txt")?;
     walk::<OfRuns>(&rt, "runs.txt")?;
     walk::<OfRuns>(&rt, "tops.txt")?;
+    walk::<OfRuns>(&rt, "worked.txt")?;
+    walk::<OfRuns>(&rt, "ticks.txt")?;
+    walk::<OfRuns>(&rt, "generated.txt")?;
     real::outside(&rt)
 }

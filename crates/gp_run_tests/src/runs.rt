@@ -1,10 +1,10 @@
 //! Runs in an order that numbers choose: their journals, what the machine tells at the end, and the records of profiles.
-ghost use Rattle.std.specs.Prelude.{◌≡◌, ◌≤◌, ◌%◌, IfOk};
-ghost use Rattle.gp_isa.specs.Limits.{instructions_per_second};
+ghost use Rattle.std.specs.Prelude.{◌≡◌, IfOk};
 ghost use Rattle.gp_journal.specs.Settings.{AreInRange};
 
+use crate::telling::tell_cpu;
 use crate::words::words_of;
-use gp_cases::{Page, Unanswered, lines, number_32, word};
+use gp_cases::{Page, Unanswered, lines};
 use gp_isa::{Frame, Program};
 use gp_machine::{Entry, Machine, Queue, Run, Settings};
 use gp_sim::{Simulated, simulate};
@@ -14,12 +14,12 @@ use gp_words::{Job, job};
 use std::alloc::{AllocError, Global};
 use std::marker::Brand;
 
-fn program_of(alloc: Global, text: &str) -> Result<Program, Unanswered> {
-    let file = lines(alloc, text)?;
+/// The program of a file.
+pub fn program_in(alloc: Global, file: &[u8]) -> Result<Program, Unanswered> {
     if file.len() > 65536 {
         return Err(Unanswered::Form);
     }
-    read(alloc, file.as_bytes()).ok().ok_or(Unanswered::Form)
+    read(alloc, file).ok().ok_or(Unanswered::Form)
 }
 
 fn settings_of(alloc: Global, line: &str) -> Result<Settings, Unanswered>
@@ -30,15 +30,6 @@ fn settings_of(alloc: Global, line: &str) -> Result<Settings, Unanswered>
         Ok(Job::Sim { settings, .. }) => Ok(settings),
         _ => Err(Unanswered::Form),
     }
-}
-
-fn sampled(settings: Settings, hz: u32) -> Settings
-    requires range { AreInRange settings }
-    requires some { 1 ≤ hz }
-    requires even { instructions_per_second % hz ≡ 0 }
-    ensures { AreInRange result }
-{
-    Settings { hz, ..settings }
 }
 
 // An entry's name and its numbers.
@@ -154,6 +145,7 @@ fn tell_run<R: Run>(
         match *row {
             "journal" => tell_journal(page, ran.machine.journal())?,
             "records" => tell_profiles(page, &ran.records)?,
+            "cpu" => tell_cpu(page, ran.cpu.records().as_slice())?,
             _ => tell_end(page, &ran.machine, workers)?,
         }
     }
@@ -176,18 +168,11 @@ fn run_and_tell<R: Run>(
     Ok(())
 }
 
-/// What comes of a run, told as each row asks: `SAMPLES LINE`, the CPU samples in a second and the command line, and the
-/// program's file as the first row.
-pub fn run(alloc: Global, page: &mut Page, head: &str, rows: &[&str]) -> Result<(), Unanswered> {
-    let (hz, line) = word(head);
-    let hz = number_32(hz)?;
+/// What comes of a run, told as each row asks: the command line, and the program's file as the first row.
+pub fn run(alloc: Global, page: &mut Page, line: &str, rows: &[&str]) -> Result<(), Unanswered> {
     let (text, rows) = rows.split_first().ok_or(Unanswered::Form)?;
-    let program = program_of(alloc, text)?;
-    let read = settings_of(alloc, line)?;
-    if hz == 0 || 1_000_000 % hz != 0 {
-        return Err(Unanswered::Form);
-    }
-    let settings = sampled(read, hz);
+    let program = program_in(alloc, lines(alloc, text)?.as_bytes())?;
+    let settings = settings_of(alloc, line)?;
     run_and_tell::<Brand>(alloc, page, &program, &settings, rows)
 }
 

@@ -1,147 +1,9 @@
 //! Whole runs through the top call.
-use crate::one_byte::OneByte;
-use crate::runs::{tell_frames, tell_journal};
-use crate::words::words_of;
-use gp_cases::{Page, Unanswered, bytes, lines, number_64, word};
-use gp_io::{Calls, Files, MemSink, MemSource, MemStore};
-use gp_isa::Content;
-use gp_machine::Entry;
-use gp_stack::Records;
-use gp_top::{Outcome, Report, plain_top};
+use crate::devices::{Devices, Failing};
+use crate::telling::{tell_all, tell_row};
+use gp_cases::{Page, Unanswered, number_64, word};
+use gp_io::Files;
 use std::alloc::{AllocError, Global};
-
-fn is_tick(entry: &Entry) -> bool {
-    match *entry {
-        Entry::Tick { .. } => true,
-        _ => false,
-    }
-}
-
-fn tell_numbers(page: &mut Page, report: &Report) -> Result<(), AllocError> {
-    let ticks = report.journal.iter().filter(|entry| is_tick(entry)).count();
-    let mut instructions = 0_u64;
-    for done in report.done.as_slice() {
-        instructions = instructions.saturating_add(*done);
-    }
-    page.number(" entries ", report.journal.len() as u64)?;
-    page.number(" ticks ", ticks as u64)?;
-    page.number(" instructions ", instructions)?;
-    page.debug(" ", &report.ended)?;
-    page.number(" born ", u64::from(report.born))?;
-    page.number(" live ", u64::from(report.live))
-}
-
-// The records of a profile, by goroutine: its number, and its frames as function and line, the leaf first.
-fn tell_profile(page: &mut Page, records: &Records, born: u32) -> Result<(), AllocError> {
-    page.text("; profile")?;
-    for g in 0..born {
-        for record in records.iter() {
-            if record.g == g {
-                page.number(" ", u64::from(g))?;
-                tell_frames(page, "@", record.stack.as_slice())?;
-            }
-        }
-    }
-    Ok(())
-}
-
-fn tell_report(page: &mut Page, report: &Report) -> Result<(), AllocError> {
-    tell_numbers(page, report)?;
-    for (room, n) in report.refused.iter() {
-        page.number("; refused ", u64::from(*room))?;
-        page.number(" ", u64::from(*n))?;
-    }
-    for records in report.goroutine_records.iter() {
-        tell_profile(page, records, report.born)?;
-    }
-    Ok(())
-}
-
-// The status; of the report the numbers, each profile that was refused, and each that was made; the names of the files.
-fn tell_outcome(page: &mut Page, outcome: &Outcome, files: &Files) -> Result<(), AllocError> {
-    page.number("\n", u64::from(outcome.status))?;
-    if let Some(report) = outcome.report.as_ref() {
-        tell_report(page, report)?;
-    }
-    for file in files.iter() {
-        page.text("; ")?;
-        page.text(file.0.as_str())?;
-    }
-    Ok(())
-}
-
-fn tell_bytes(alloc: Global, page: &mut Page, files: &Files) -> Result<(), Unanswered> {
-    for file in files.iter() {
-        page.bytes(alloc, file.1.as_slice())?;
-    }
-    Ok(())
-}
-
-fn tell(
-    alloc: Global,
-    page: &mut Page,
-    outcome: &Outcome,
-    files: &Files,
-    rows: &[&str],
-) -> Result<(), Unanswered> {
-    for row in rows {
-        match *row {
-            "outcome" => tell_outcome(page, outcome, files)?,
-            "journal" => {
-                let report = outcome.report.as_ref().ok_or(Unanswered::Form)?;
-                tell_journal(page, report.journal.as_slice())?;
-            }
-            _ => tell_bytes(alloc, page, files)?,
-        }
-    }
-    Ok(())
-}
-
-fn calls(alloc: Global, failing: &str) -> Result<Calls, Unanswered> {
-    let failing = number_64(failing)?;
-    Ok(Calls::from_slice(alloc, &[failing])?)
-}
-
-/// What a call of the program reads from, puts to and writes to.
-#[derive(Drop)]
-struct Devices {
-    source: MemSource,
-    store: MemStore,
-    sink: OneByte,
-}
-
-// A source that holds the file in a row, as bytes or as a text; and the calls of source, store and sink that are to fail.
-fn devices_of(
-    alloc: Global,
-    row: &str,
-    read: &str,
-    put: &str,
-    write: &str,
-) -> Result<Devices, Unanswered> {
-    let (kind, held) = word(row);
-    let content = match kind {
-        "bytes" => Content::from_vec(bytes(alloc, held)?),
-        _ => Content::from_slice(alloc, lines(alloc, held)?.as_bytes())?,
-    };
-    Ok(Devices {
-        source: MemSource::new(content, calls(alloc, read)?),
-        store: MemStore::new(alloc, calls(alloc, put)?),
-        sink: OneByte {
-            held: MemSink::new(alloc, calls(alloc, write)?),
-        },
-    })
-}
-
-// What comes of a command line.
-fn call(alloc: Global, line: &str, devices: &mut Devices) -> Result<Outcome, Unanswered> {
-    let words = words_of(alloc, line)?;
-    let Devices {
-        source,
-        store,
-        sink,
-    } = devices;
-    Ok(plain_top(alloc, words.as_slice(), source, store, sink))
-}
 
 /// What comes of a command line, told as each row asks: `READ PUT LINE`, the read and the put that are to fail (0: none) and
 /// the command line, and the program's file in the first row.
@@ -149,25 +11,109 @@ pub fn top(alloc: Global, page: &mut Page, head: &str, rows: &[&str]) -> Result<
     let (read, rest) = word(head);
     let (put, line) = word(rest);
     let (file, rows) = rows.split_first().ok_or(Unanswered::Form)?;
-    let mut devices = devices_of(alloc, file, read, put, "0")?;
-    let outcome = call(alloc, line, &mut devices)?;
-    tell(alloc, page, &outcome, devices.store.files(), rows)
+    let failing = Failing {
+        read: number_64(read)?,
+        put: number_64(put)?,
+        write: 0,
+    };
+    let mut devices = Devices::new(alloc, file, failing)?;
+    let outcome = devices.call(alloc, line)?;
+    for row in rows {
+        tell_row(alloc, page, &outcome, &devices, row)?;
+    }
+    Ok(())
 }
 
-/// What a command line writes, to a sink that takes one byte at a time: `READ WRITE LINE`, the read and the write that are to
-/// fail (0: none) and the command line, and the file in the row, as a text or as bytes. Told are the status, the names of the
-/// files that were put, and what was written, with a `;` for each line feed.
+fn tell_names(page: &mut Page, files: &Files) -> Result<(), AllocError> {
+    for file in files.iter() {
+        page.text(" ")?;
+        page.text(file.0.as_str())?;
+    }
+    Ok(())
+}
+
+/// What a command line writes: `READ WRITE LINE`, the read and the write that are to fail (0: none) and the command line, and
+/// the file in the row, as a text or as bytes. Told are the status, the names of the files that were put, and what was written,
+/// with a `;` for each line feed.
 pub fn told(alloc: Global, page: &mut Page, head: &str, rows: &[&str]) -> Result<(), Unanswered> {
     let (read, rest) = word(head);
     let (write, line) = word(rest);
     let row = rows.first().ok_or(Unanswered::Form)?;
-    let mut devices = devices_of(alloc, row, read, "0", write)?;
-    let outcome = call(alloc, line, &mut devices)?;
+    let failing = Failing {
+        read: number_64(read)?,
+        put: 0,
+        write: number_64(write)?,
+    };
+    let mut devices = Devices::new(alloc, row, failing)?;
+    let outcome = devices.call(alloc, line)?;
     page.number("\n", u64::from(outcome.status))?;
-    for file in devices.store.files().iter() {
-        page.text(" ")?;
-        page.text(file.0.as_str())?;
-    }
+    tell_names(page, devices.store.files())?;
     page.written(devices.sink.held.written().as_slice())?;
+    Ok(())
+}
+
+// What comes where a write is to fail: the status, how many bytes of what is written else were written, and the files.
+fn tell_write(
+    alloc: Global,
+    page: &mut Page,
+    write: u64,
+    line: &str,
+    row: &str,
+    whole: &[u8],
+) -> Result<(), Unanswered> {
+    let failing = Failing {
+        write,
+        ..Failing::NONE
+    };
+    let mut devices = Devices::new(alloc, row, failing)?;
+    let outcome = devices.call(alloc, line)?;
+    let written = devices.sink.held.written().as_slice();
+    page.number("\n", u64::from(outcome.status))?;
+    if whole.starts_with(written) {
+        page.number(" from byte ", (written.len() as u64).saturating_add(1))?;
+    }
+    tell_names(page, devices.store.files())?;
+    Ok(())
+}
+
+/// What comes of a command line where each of the first writes of a byte fails in turn: `COUNT LINE`, and the file in the row.
+/// Told are the status, the first byte that wasn't written, counted from 1, and the names of the files.
+pub fn writes(alloc: Global, page: &mut Page, head: &str, rows: &[&str]) -> Result<(), Unanswered> {
+    let (count, line) = word(head);
+    let row = rows.first().ok_or(Unanswered::Form)?;
+    let mut well = Devices::new(alloc, row, Failing::NONE)?;
+    let _ = well.call(alloc, line)?;
+    for write in 0..number_64(count)? {
+        let whole = well.sink.held.written().as_slice();
+        tell_write(alloc, page, write + 1, line, row, whole)?;
+    }
+    Ok(())
+}
+
+// Calls a command line once, tells of it as each row asks, and gives all that is told of it as a page of its own.
+fn called(
+    alloc: Global,
+    page: &mut Page,
+    line: &str,
+    file: &str,
+    rows: &[&str],
+) -> Result<Page, Unanswered> {
+    let mut devices = Devices::new(alloc, file, Failing::NONE)?;
+    let outcome = devices.call(alloc, line)?;
+    for row in rows {
+        tell_row(alloc, page, &outcome, &devices, row)?;
+    }
+    let mut all = Page::new(alloc);
+    tell_all(alloc, &mut all, &outcome, &devices)?;
+    Ok(all)
+}
+
+/// What comes of a command line that is called twice, told of the first call as each row asks, and whether both calls told,
+/// put and wrote the same: the command line, and the program's file in the first row.
+pub fn twice(alloc: Global, page: &mut Page, line: &str, rows: &[&str]) -> Result<(), Unanswered> {
+    let (file, rows) = rows.split_first().ok_or(Unanswered::Form)?;
+    let first = called(alloc, page, line, file, rows)?;
+    let second = called(alloc, page, line, file, &[])?;
+    page.debug("\n", &(first.as_str() == second.as_str()))?;
     Ok(())
 }

@@ -30,7 +30,7 @@ fn tell_lists(page: &mut Page, settings: &Settings) -> Result<(), AllocError> {
     Ok(())
 }
 
-// Workers, room, cells, entries, seed and the lists; and those that no option sets.
+// Workers, room, cells, entries, seed and the lists; and the rates, and the words and tags of the ring.
 fn tell_settings(page: &mut Page, settings: &Settings) -> Result<(), AllocError> {
     page.number(" ", u64::from(settings.workers))?;
     page.number(" ", u64::from(settings.room))?;
