@@ -8,13 +8,14 @@
     programs.py wide KIBIBYTES            256 functions that each call the next one, in a file of so many kibibytes
     programs.py blocked GOROUTINES KIND   goroutines that all wait at last, with one stack (KIND is `same`) or as many
                                           stacks as goroutines (`distinct`)
+    programs.py sampled FRAMES STACKS N   so many stacks of so many frames each, in turns, with N instructions in all
     programs.py largest FRAMES            16,384 goroutines, with stacks of up to FRAMES frames, that fill the largest
                                           journal
 
 The program goes to standard output. To standard error goes one line with its numbers: for `mixed` the operations (shared
 points and statements of work passed) and the instructions of a whole run, for `shared` the shared points, for `blocked` the
-goroutines and the distinct stacks among them, for `largest` the goroutines and the frames of each stack, for the others
-the statements of the file.
+goroutines and the distinct stacks among them, for `sampled` the instructions, for `largest` the goroutines and the frames
+of each stack, for the others the statements of the file.
 """
 
 import sys
@@ -156,6 +157,17 @@ def largest(frames):
     return lines, f"{CELLS} {frames}"
 
 
+def sampled(frames, stacks, instructions):
+    """One instruction at each line of a function behind calls, and again."""
+    turns = instructions // stacks
+    body = [f"loop {turns} {{", *["work 1"] * stacks, "}"]
+    if frames == 1:
+        return function("main", body), f"{turns * stacks}"
+    first = f"d{frames - 2}" if frames > 2 else "last"
+    lines = function("main", [f"call {first}"]) + chain(frames - 2, "last") + function("last", body)
+    return lines, f"{turns * stacks}"
+
+
 def main():
     kind, number = sys.argv[1], int(sys.argv[2])
     if kind == "mixed":
@@ -164,6 +176,8 @@ def main():
         lines, numbers = {"shared": shared, "twice": twice, "row": row, "climb": climb, "wide": wide}[kind](number)
     elif kind == "blocked":
         lines, numbers = (same if sys.argv[3] == "same" else distinct)(number)
+    elif kind == "sampled":
+        lines, numbers = sampled(number, int(sys.argv[3]), int(sys.argv[4]))
     else:
         lines, numbers = largest(number)
     sys.stdout.write("\n".join(lines) + "\n")

@@ -3,12 +3,12 @@
 Times are processor time, user and system, the least of ROUNDS rounds in which gp and Go take turns, so that a machine that is
 slow for a while is slow for both. `MiB` is the largest peak of memory, and no less than that of the Python that starts the
 program. `growth` is the exponent of the time by the quantity that doubles, over the upper half of the rows: 1 is linear. An
-entry is one of the journal; how many a run makes is found by halving, since a journal that is too short ends with a status of
-its own.
+entry is one of the journal; how many a run makes, and how many samples, its summary tells.
 """
 
 import math
 import os
+import re
 import subprocess
 import sys
 
@@ -37,6 +37,10 @@ def sim(*options):
     return [gp, "sim", *map(str, options)]
 
 
+def gen(*options):
+    return [gp, "gen", *map(str, options)]
+
+
 def measure(commands, status=0, go=None, is_told=False):
     """Least processor times and largest memory of each of these commands, and the least time of Go, taken in turns."""
     found = [[math.inf, 0.0] for _ in commands]
@@ -53,18 +57,15 @@ def measure(commands, status=0, go=None, is_told=False):
     return found, of_go
 
 
+def summed(words, *names):
+    """What the summary of a run tells under these names."""
+    said = once(words)[3]
+    return [int(re.search(rf"\b{name} (\d+)", said)[1]) for name in names]
+
+
 def entries(name, *options):
-    """How many entries a run makes, or the most where the journal gets full."""
-    low, high = LEAST - 1, MOST
-    if once(sim(name, *options, "--entries", MOST))[2] == FULL:
-        return MOST
-    while high - low > 1:
-        middle = (low + high) // 2
-        if once(sim(name, *options, "--entries", middle))[2] == FULL:
-            low = middle
-        else:
-            high = middle
-    return high
+    """How many entries a run makes, up to the most."""
+    return summed(sim(name, *options, "--entries", MOST), "entries")[0]
 
 
 def growth(rows):
@@ -150,6 +151,49 @@ for kind in ("same", "distinct"):
         rows.append((n, took))
         row(stacks, n, took / n * 1e6, of_go / n * 1e6, took / of_go, profiled[1])
     print(f"{'':>14}growth with goroutines {growth(rows):.2f}")
+
+print("\nSamples: workers of calls, work, channels and mutexes, 64 goroutines, at several rates; a Tick is an entry too.")
+head("workers", "samples/s", "ticks", "lost", "entries", "ns/entry", "ns/tick", "MiB")
+program("it.gp", "mixed", 64)
+for workers in (1, 4):
+    options = ["it.gp", "--workers", workers, "--entries", MOST]
+    rates = (1, 100, 10_000, 1_000_000)
+    found, _ = measure([sim(*options, "--hz", hz) for hz in rates])
+    for hz, (took, memory) in zip(rates, found):
+        made, ticks, lost = summed(sim(*options, "--hz", hz), "entries", "ticks", "lost")
+        # (few ticks don't show in the time)
+        more = (took - found[0][0]) / ticks * 1e9 if ticks > made / 100 else math.nan
+        row(workers, hz, ticks, lost, made, took / made * 1e9, more, memory)
+
+print("\nMany samples: a sample for each instruction of a function behind calls; the run, cpu.pb with it.")
+head("frames", "stacks", "samples", "ms", "us/sample", "MiB")
+for frames, stacks in ((1, 1), (64, 1), (64, 1024)):
+    rows = []
+    for n in (125_000, 250_000, 500_000, 1_000_000, 2_000_000):
+        program("it.gp", "sampled", frames, stacks, n)
+        ((took, memory),), _ = measure([sim("it.gp", "--workers", 1, "--hz", 1_000_000, "--entries", MOST)])
+        rows.append((n, took))
+        row(frames, stacks, n, took * 1e3, took / n * 1e6, memory)
+    print(f"{'':>14}growth with samples {growth(rows):.2f}")
+
+print("\nPrograms made by rules, by two workers with one profile and all events: more goroutines, a larger journal, more samples.")
+head("numbers", "entries up to", "samples/s", "entries", "instructions", "entries/s", "MiB")
+for numbers, limits, rates in (
+    ((4, 8, 16, 32, 63), (262_144,), (100,)),
+    ((63,), (MOST // 4, MOST), (100,)),
+    ((63,), (MOST,), (1_000, 10_000, 100_000)),
+):
+    rows = []
+    for q in numbers:
+        for limit in limits:
+            for hz in rates:
+                options = ["--workers", 2, "--at", 100_000, "--block", 1, "--mutex", 1, "--entries", limit, "--hz", hz]
+                ((took, memory),), _ = measure([gen(7, q, *options)])
+                made, run = summed(gen(7, q, *options), "entries", "instructions")
+                rows.append((made, took))
+                row(f"7 {q}", limit, hz, made, run, made / took, memory)
+    if len(limits) == 1:
+        print(f"{'':>14}growth with entries {growth(rows):.2f}")
 
 print("\nThe largest settings: 16 workers, 16,384 goroutines, a full journal, eight profiles of all of them.")
 head("frames", "entries", "ns/entry", "MiB")

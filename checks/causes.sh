@@ -1,20 +1,7 @@
 #!/usr/bin/env bash
 # Runs the program on the smallest file of each cause, as docs/FORMATS.md shows them, and looks at its exit status and at the
 # line and the cause that it prints.
-set -u
-export LC_ALL=C
-top=$(cd -P -- "$(dirname -- "${BASH_SOURCE[0]}")/.." && pwd)
-gp=$top/gp
-failures=0
-
-fail() {
-  echo "  $*"
-  failures=$((failures + 1))
-}
-
-# The launcher may have to prove and build first, and says so.
-"$gp" >/dev/null
-[ $? != 125 ] || exit 1
+. "$(dirname -- "${BASH_SOURCE[0]}")/head.bash"
 
 rows=0
 # (a row is: nothing, the cause, its name, where it stands, the file, its line)

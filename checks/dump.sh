@@ -3,16 +3,7 @@
 # `go tool pprof -raw` shows of the same file: types, period, and samples in order, each with its values, its frames, inlined ones
 # among them, and its labels. Then a profile with single bytes changed is dumped a thousand times: it is read, or refused by one
 # line, and never takes a second.
-set -u
-export LC_ALL=C
-top=$(cd -P -- "$(dirname -- "${BASH_SOURCE[0]}")/.." && pwd)
-gp=$top/gp
-failures=0
-
-fail() {
-  echo "  $*"
-  failures=$((failures + 1))
-}
+. "$(dirname -- "${BASH_SOURCE[0]}")/head.bash"
 
 # In CI the tools may be installed; a user's machine is left as it is.
 if [ "${CI:-}" = true ] && ! command -v go >/dev/null; then
@@ -24,10 +15,6 @@ if ! command -v go >/dev/null || ! go tool -n pprof >/dev/null 2>&1; then
   exit 0
 fi
 HOME=${HOME:-$PWD} go build -o dumper "$top/checks/dump.go" || exit 1
-
-# The launcher may have to prove and build first, and says so.
-"$gp" dump >/dev/null
-[ $? != 125 ] || exit 1
 
 ./dumper make || fail "Go made no profiles"
 for kind in goroutine heap cpu block mutex; do

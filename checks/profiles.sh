@@ -1,34 +1,48 @@
 #!/usr/bin/env bash
-# Runs the program on every example, in the folder that this is started in, and looks at its exit status, at what it
-# prints (nothing: what it refuses is in refusals.sh) and at the files that it puts: byte by byte where the bytes are known, and through Go's pprof and protoc
-# where they are there. What is expected is worked out by hand from the rules of the machine.
-set -u
-export LC_ALL=C
-top=$(cd -P -- "$(dirname -- "${BASH_SOURCE[0]}")/.." && pwd)
-gp=$top/gp
-failures=0
+# Runs the program on every example, in the folder that this is started in, and looks at its exit status, at the summary that it
+# writes (what it refuses is in refusals.sh) and at the files that it puts: byte by byte where the bytes are known, and through Go's
+# pprof and protoc where they are there. What is expected is worked out by hand from the rules of the machine, or by a program that
+# was written apart from gp.
+. "$(dirname -- "${BASH_SOURCE[0]}")/head.bash"
 
-fail() {
-  echo "  $*"
-  failures=$((failures + 1))
-}
-
-# run STATUS FILES WORDS..: runs the program, which prints nothing and puts just these goroutine profiles (names in one word), and
-# block.pb and mutex.pb where all files of a run are put.
+# run STATUS FILES WORDS..: runs the program, which puts just these files (names in one word) besides block.pb, cpu.pb and mutex.pb, and
+# writes its summary; or it puts just these files and writes nothing, where not all files of a run are put.
 run() {
-  local wanted=$1 files=$2 before got said put
+  local wanted=$1 files=$2 before got put
   shift 2
   case $wanted in
-    0 | 5 | 6 | 7 | 8) files="block.pb ${files:+$files }mutex.pb" ;;
+    0 | 5 | 6 | 7 | 8) files="block.pb cpu.pb ${files:+$files }mutex.pb" ;;
   esac
-  rm -f -- goroutine.*.pb block.pb mutex.pb 2>/dev/null
+  rm -f -- goroutine.*.pb block.pb cpu.pb gen.gp mutex.pb 2>/dev/null
   before=$(ls -A)
   said=$("$gp" "$@" 2>&1)
   got=$?
   put=$(comm -13 <(printf '%s\n' "$before") <(ls -A) | tr '\n' ' ')
   [ "$got" = "$wanted" ] || fail "gp $*: status $got in place of $wanted"
-  [ -z "$said" ] || fail "gp $*: it printed '$said'"
   [ "${put% }" = "$files" ] || fail "gp $*: it put '${put% }' in place of '$files'"
+  case $wanted in
+    0 | 7) told "$*" '^end main$' ;;
+    5) told "$*" '^end fault [12]$' ;;
+    6) told "$*" '^end deadlock$' ;;
+    8) told "$*" '^end full$' ;;
+    *) [ -z "$said" ] || fail "gp $*: it wrote '$said'" ;;
+  esac
+}
+
+# told WORDS END: the program wrote a summary whose first line fits.
+told() {
+  local form
+  form='entries N|instructions N|born N live N|ticks N samples N lost N|profiles N refused N|block N N|mutex N N'
+  [[ ${said%%$'\n'*} =~ $2 ]] || fail "gp $1: the first line that it wrote is '${said%%$'\n'*}'"
+  [ "$(tail -n +2 <<<"$said" | sed -E 's/[0-9]+/N/g' | paste -sd '|')" = "$form" ] || fail "gp $1: no summary is '$said'"
+}
+
+# summary LINE..: the last summary has each of these lines.
+summary() {
+  local line
+  for line in "$@"; do
+    grep -qx -- "$line" <<<"$said" || fail "no line '$line' in the summary '$said'"
+  done
 }
 
 # In CI the tools may be installed; a user's machine is left as it is.
@@ -89,6 +103,17 @@ waits() {
   top_of "$file" '^Type: delay$'
 }
 
+# ticks PERIOD SAMPLE..: these are the samples of cpu.pb, each with how many there were and how many nanoseconds they stand for;
+# pprof knows the two values and the period, and takes the second value.
+ticks() {
+  local period=$1
+  shift
+  samples cpu.pb "$@"
+  raw cpu.pb '^samples/count cpu/nanoseconds$'
+  raw cpu.pb "^Period: $period\$"
+  top_of cpu.pb '^Type: cpu$'
+}
+
 # top_of FILE PATTERN..: `pprof -top` of a profile has a line for each that fits.
 top_of() {
   local file=$1 printed pattern
@@ -97,6 +122,17 @@ top_of() {
   printed=$(go tool pprof -top "$file" 2>/dev/null)
   for pattern in "$@"; do
     grep -Eq -- "$pattern" <<<"$printed" || fail "pprof -top $file shows no line '$pattern'"
+  done
+}
+
+# callers_of FUNCTION FILE PATTERN..: `pprof -peek` of a function has a line for each that fits.
+callers_of() {
+  local function=$1 file=$2 printed pattern
+  shift 2
+  [ "$has_go" = yes ] || return
+  printed=$(go tool pprof -peek "^$function\$" "$file" 2>/dev/null)
+  for pattern in "$@"; do
+    grep -Eq -- "$pattern" <<<"$printed" || fail "pprof -peek $function of $file shows no line '$pattern'"
   done
 }
 
@@ -135,10 +171,6 @@ command -v protoc >/dev/null && has_protoc=yes
 [ "$has_go" = yes ] || echo "skipped: no go"
 [ "$has_protoc" = yes ] || echo "skipped: no protoc"
 
-# The launcher may have to prove and build first, and says so.
-"$gp" sim >/dev/null
-[ $? != 125 ] || exit 1
-
 # The smallest program: 76 known bytes.
 printf 'func main {\nwork 1\n}\n' >a.gp
 run 0 goroutine.1.pb sim a.gp --at 0
@@ -149,6 +181,7 @@ cat >wanted.hex <<'END'
 5a04080110026001
 END
 [ "$(od -An -v -tx1 goroutine.1.pb | tr -d ' \n')" = "$(tr -d '\n' <wanted.hex)" ] || fail "goroutine.1.pb of a.gp has other bytes"
+summary 'entries 5' 'instructions 1' 'born 1 live 0' 'ticks 0 samples 0 lost 0' 'profiles 1 refused 0' 'block 0 0' 'mutex 0 0'
 raw goroutine.1.pb '^ *1: 1 *$'
 raw goroutine.1.pb '^ *1: 0x0 M=1 main a\.gp:2(:0)? '
 samples goroutine.1.pb '1 main@a.gp:2'
@@ -167,6 +200,20 @@ for file in block.pb mutex.pb; do
   [ "$(od -An -v -tx1 "$file" | tr -d ' \n')" = "$(tr -d '\n' <wanted.hex)" ] || fail "$file of a.gp has other bytes"
   waits "$file" ''
 done
+
+# A CPU profile of one sample: 110 known bytes.
+printf 'func main {\nwork 20000\n}\n' >a.gp
+run 0 '' sim a.gp --workers 1
+summary 'entries 60' 'ticks 1 samples 1 lost 0'
+cat >wanted.hex <<'END'
+0a04080110020a0408031004120a0a010112050180ade2042208080122040801
+10022a0a080110051805200628013200320773616d706c65733205636f756e74
+3203637075320b6e616e6f7365636f6e647332046d61696e3204612e6770
+5080dac4095a04080310046080ade204
+END
+[ "$(od -An -v -tx1 cpu.pb | tr -d ' \n')" = "$(tr -d '\n' <wanted.hex)" ] || fail "cpu.pb of a.gp has other bytes"
+ticks 10000000 '1 10000000 main@a.gp:2'
+printf 'func main {\nwork 1\n}\n' >a.gp
 
 # A file of a mebibyte.
 {
@@ -251,7 +298,7 @@ for file in examples/*.gp; do
       ;;
     examples/woken.gp)
       # `f` is woken between the Open and its record, and is shown where it stood at the Open
-      run 0 goroutine.1.pb sim "$file" --workers 1 --at 1001 --picks 0,0,0,1,1
+      run 0 goroutine.1.pb sim "$file" --workers 1 --at 1001 --picks 1,0,0,0,1,1
       samples goroutine.1.pb "1 f@$file:9" "1 main@$file:5"
       texts goroutine.1.pb f "$file" main
       ;;
@@ -290,6 +337,27 @@ for file in examples/*.gp; do
       waits block.pb "1 22200000 main@$file:10" "32 4345000 deliver@$file:21 producer@$file:16" "1 20000 consumer@$file:26"
       top_of block.pb '^ *22\.20ms .* main$' '^ *4\.34ms .* deliver$'
       ;;
+    examples/hot.gp)
+      # of 127 ticks 120 fall into `scan`, three quarters of them behind `search`
+      run 0 '' sim "$file" --workers 1
+      summary 'instructions 1270002' 'ticks 127 samples 127 lost 0'
+      ticks 10000000 "30 300000000 scan@$file:29 load@$file:16 main@$file:8" "4 40000000 load@$file:15 main@$file:8" \
+        "90 900000000 scan@$file:29 search@$file:22 main@$file:10" "3 30000000 search@$file:23 main@$file:10"
+      top_of cpu.pb '^ *1200ms 94\.49% 94\.49% +1200ms 94\.49% +scan$' '^ *40ms .* 340ms 26\.77% +load$' '^ *30ms .* 930ms 73\.23% +search$'
+      callers_of scan cpu.pb '900ms 75\.00% \| +search$' '300ms 25\.00% \| +load$'
+      tags cpu.pb task '930.* search' '340.* load'
+      ;;
+    examples/lost.gp)
+      # by a simulator that was written apart: of 2,007 ticks 347 find no room
+      run 0 '' sim "$file" --workers 4 --hz 1000000 --ring 16 --tags 4
+      summary 'instructions 2012' 'ticks 2007 samples 1660 lost 347'
+      ticks 1000 "3 3000 main@$file:8" "1649 1649000 busy@$file:16" "4 4000 main@$file:11" \
+        '347 347000 runtime/pprof.lostProfileEvent@:0' "4 4000 busy@$file:17"
+      top_of cpu.pb '^ *347us 17\.29% .* runtime/pprof\.lostProfileEvent$'
+      # the usual ring has room for all
+      run 0 '' sim "$file" --workers 4 --hz 1000000
+      summary 'ticks 2007 samples 2007 lost 0'
+      ;;
     examples/service.gp)
       # all requests are answered, and whoever answers waits for the next one: three for reads, two for writes
       run 6 goroutine.1.pb sim "$file" --at end
@@ -307,5 +375,20 @@ for file in examples/*.gp; do
   esac
 done
 [ "$seen" -gt 0 ] || fail "no example was run"
+
+# A program made by rules, whose instructions follow from them: every file of its run is read, and shows the functions that it has.
+run 0 'gen.gp goroutine.1.pb' gen 7 32 --workers 2 --at 100000 --block 1 --mutex 1
+summary 'instructions 2196608' 'born 513 live 0' 'profiles 1 refused 0' 'ticks 219 samples 219 lost 0'
+[ "$(wc -l <gen.gp)" = 252 ] || fail "gen.gp hasn't 252 lines"
+top_of goroutine.1.pb '^Type: goroutine$' '^ *26 +6\.24% +6\.24% +26 +6\.24% +k0$'
+top_of cpu.pb '^Type: cpu$' 'Total samples = 2\.19s' '^ *0\.22s 10\.05% 10\.05% +0\.22s 10\.05% +k10$'
+top_of block.pb '^Type: delay$' ' of 672\.32s total$' '^ *47\.91s +7\.13% +7\.13% +47\.91s +7\.13% +s10$'
+top_of mutex.pb '^Type: delay$' ' of 671\.16s total$' '^ *47\.97s +7\.15% +7\.15% +47\.97s +7\.15% +s10$'
+tags cpu.pb kind ' 10$' ' 1$' ' 8$' ' 14$' . . . . . . . . . . . .
+# Its file is a program like others: run by its name, it does the same.
+mv -- gen.gp made.gp
+kept=$said
+run 0 goroutine.1.pb sim made.gp --workers 2 --at 100000 --block 1 --mutex 1
+[ "$said" = "$kept" ] || fail "gp sim of a generated file writes '$said' in place of '$kept'"
 
 [ "$failures" = 0 ]

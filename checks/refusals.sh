@@ -2,16 +2,8 @@
 # Runs the program on odd words and odd files, in the folder that this is started in, and compares its exit status and the line
 # that it writes, to the byte. Nothing else is written, and nothing is put. What is expected is worked out by hand from
 # docs/COMMANDS.md and docs/FORMATS.md. The launcher's page of help and its plain words are looked at too.
-set -u
-export LC_ALL=C
-top=$(cd -P -- "$(dirname -- "${BASH_SOURCE[0]}")/.." && pwd)
-gp=$top/gp
-failures=0 tried=0
-
-fail() {
-  echo "  $*"
-  failures=$((failures + 1))
-}
+. "$(dirname -- "${BASH_SOURCE[0]}")/head.bash"
+tried=0
 
 # answers STATUS LINE WORDS..: the program's status, and all that it writes: this line, or nothing.
 answers() {
@@ -38,10 +30,6 @@ refused() {
   [ "$failures" = "$before" ] || echo "  (odd.gp holds '$2')"
 }
 
-# The launcher may have to prove and build first, and says so.
-"$gp" sim >/dev/null
-[ $? != 125 ] || exit 1
-
 printf 'func main {\nwork 1\n}\n' >a.gp
 : >said
 : >told
@@ -58,7 +46,15 @@ answers 1 'usage 0 1' 'sim a.gp'
 answers 1 'usage 0 1' --help sim
 answers 1 'usage 0 1' run
 answers 1 'usage 0 1' run a.gp --picks 1
-answers 1 'usage 0 1' gen 7 64
+
+# The numbers of a program that is made.
+answers 1 'usage 1 2' gen
+answers 1 'usage 2 2' gen 7
+answers 1 'usage 1 4' gen x 1
+answers 1 'usage 1 4' gen 18446744073709551616 1
+answers 1 'usage 2 4' gen 7 0
+answers 1 'usage 2 4' gen 7 64
+answers 1 'usage 3 3' gen 7 1 a.gp
 
 # `dump` takes one word.
 answers 1 'usage 1 2' dump
@@ -79,7 +75,6 @@ answers 1 'usage 2 3' sim a.gp --room=1
 answers 1 'usage 2 3' sim a.gp '--room 1'
 answers 1 'usage 2 3' sim a.gp $'--room\n' 1
 answers 1 'usage 2 3' sim a.gp ''
-answers 1 'usage 2 3' sim a.gp --hz 100
 answers 1 'usage 3 2' sim a.gp --block
 answers 1 'usage 4 3' sim a.gp --at 0 5
 answers 1 'usage 4 5' sim a.gp --room 1 --room 1
@@ -95,6 +90,9 @@ answers 1 'usage 3 4' sim a.gp --at ' 1'
 answers 1 'usage 3 4' sim a.gp --at END
 answers 1 'usage 3 4' sim a.gp --workers 17
 answers 1 'usage 3 4' sim a.gp --block 2
+answers 1 'usage 3 4' sim a.gp --hz 3
+answers 1 'usage 3 4' sim a.gp --ring 15
+answers 1 'usage 3 4' sim a.gp --tags 0
 answers 1 'usage 5 4' sim a.gp --block 1 --mutex 1000000001
 answers 1 'usage 3 4' sim a.gp --workers ٣
 answers 1 'usage 3 4' sim a.gp --seed 000000000000000000000
