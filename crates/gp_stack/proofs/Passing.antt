@@ -24,6 +24,10 @@ work_none points = record { points = []; split = refl; count = refl; work = refl
 pub passes_none : (parts : Parts) (before after : List Level) → left parts after ≡ left parts before → Passes parts before after 0
 passes_none parts before after same = subst (λ rest. WorkBefore (left parts before) rest 0) (sym same) (work_none (left parts before))
 
+-- a move that passes no point, behind others
+pub passes_to : (parts : Parts) (before between after : List Level) (n : ℕ) → left parts after ≡ left parts between → Passes parts before between n → Passes parts before after n
+passes_to parts before between after n same passes = subst (λ rest. WorkBefore (left parts before) rest n) (sym same) passes
+
 pub none_passed : (parts : Parts) (before after : List Level) (n : ℕ) → Passes parts before after n → n ≤ 0 → left parts after ≡ left parts before
 none_passed parts before after n passes few = at passes.points passes.split passes.count
   where

@@ -3,6 +3,7 @@ use Rattle.std.proofs.Common.{◌≡◌, ◌<◌, ◌≤◌, ◌+◌, ◌-◌, �
 use Rattle.std.proofs.Common.{Bool, true, false}
 use Rattle.std.specs.Bool.{OnTrue, OnFalse}
 use Rattle.std.specs.Prelude.{vec_capacity}
+use Rattle.gp_isa.specs.declared.block.Block.{Block}
 use Rattle.gp_isa.specs.declared.parts.Parts.{Parts}
 use Rattle.gp_isa.specs.declared.statement.Stmt.{Stmt}
 use Rattle.gp_isa.specs.declared.statement.What.TheOpen.{Call, Loop, Send, Recv, Lock, Unlock, Spawn}
@@ -18,7 +19,7 @@ use Rattle.gp_stack.specs.declared.statement.Operation.TheVariants as operation
 use Rattle.gp_stack.specs.kept.Level.{is_base, body_at, left}
 use Rattle.gp_stack.specs.kept.Cost.{cost}
 use Rattle.gp_stack.specs.kept.Ahead.{Does, action_of_operation}
-use Rattle.gp_stack.specs.kept.Place.{stepped, turned, left_behind, looped, called, levels, room, Fit, IsIn, IsSettled, AtPoint}
+use Rattle.gp_stack.specs.kept.Place.{stepped, turned, left_behind, looped, called, levels, room, Fit, IsHere, IsIn, IsSettled, AtPoint}
 use Rattle.gp_stack.proofs.Levels.{base_false}
 use Rattle.gp_stack.proofs.Moves.{moved, body_moved, body_turned, body_turning, loop_level, call_level, body_of_loop, body_of_call, left_skip, left_loop, left_call, left_turned, added_no_loop, added_no_call}
 use Rattle.gp_stack.proofs.Costs.{cost_skip, cost_loop, cost_call, cost_turned}
@@ -94,6 +95,17 @@ fit_begun parts f calls outer whole none =
 -- a place after a move
 pub is_in : (parts : Parts) (place new : Place) (ls : List Level) → IsIn parts place → levels new ≡ ls → Fit parts (room parts) ls → vec_capacity new.outer ≡ vec_capacity place.outer → IsIn parts new
 is_in parts place new ls old same fit capacity = record { fit = subst (Fit parts (room parts)) (sym same) fit; reserved = subst (λ n. room parts ≤ n) (sym capacity) old.reserved }
+
+-- what was looked up of the innermost level
+abbrev HereIn : Parts → Block → List Level → Type 0
+HereIn parts block [] = Unit {0}
+HereIn parts block (level ∷ outer) = IsHere parts level outer block
+
+-- it stays what it is at the next statement
+pub here_stepped : (parts : Parts) (new : Place) (level : Level) (outer : List Level) (block : Block) → levels new ≡ stepped (level ∷ outer) → IsHere parts level outer block → IsHere parts new.top (reverse new.outer.items) block
+here_stepped parts new level outer block same is =
+    let next : HereIn parts block (stepped (level ∷ outer)) = record { statements = is.statements ∙ sym (body_moved parts level (level.at + 1) outer); kept = is.kept } in
+    subst (HereIn parts block) (sym same) next
 
 pub looped_some : (loops n len : ℕ) (level : Level) (outer : List Level) → 0 < loops → record { at = len; turns = n; calls = level.calls; function = level.function; loops = loops - 1 } ∷ stepped (level ∷ outer) ≡ looped loops n len level outer
 looped_some zero n len level outer some = absurd (omega arith)

@@ -120,10 +120,11 @@ impl Body {
         ensures stands { StandsIn program.now self.new }
         ensures progress { progress_of self.new ≡ record (progress_of self.old) { count = (progress_of self.old).count + 1 } }
     {
-        match self.place.ahead(program) {
+        let here = self.place.here(program);
+        match self.place.ahead_in(program, &here) {
             Ahead::Shared(_) => {
                 self.count += 1;
-                self.place.pass(program, 0);
+                self.place.pass(program, &here, 0);
             }
             Ahead::End => unreachable!(),
             Ahead::Work(_) => unreachable!(),
@@ -250,7 +251,8 @@ impl Body {
         ensures some { 0 < result }
         ensures within { result ≤ n }
     {
-        match self.place.ahead(program) {
+        let here = self.place.here(program);
+        match self.place.ahead_in(program, &here) {
             Ahead::Work(of) => {
                 let left = (of - self.passed) as u64;
                 if n < left {
@@ -259,14 +261,14 @@ impl Body {
                     n
                 } else {
                     self.passed = 0;
-                    let behind = self.place.pass(program, n - left);
+                    let behind = self.place.pass(program, &here, n - left);
                     self.count += left + behind;
                     left + behind
                 }
             }
             Ahead::Labels(set) => {
                 self.labels = set;
-                let behind = self.place.pass(program, n - 1);
+                let behind = self.place.pass(program, &here, n - 1);
                 self.count += 1 + behind;
                 1 + behind
             }

@@ -33,14 +33,15 @@
 //! `main` at line 3: the level around the body of a function called gives its caller's frame, at the statement before
 //! its next one, and a level around a loop gives none.
 //!
-//! Levels find their statements by indices: a loop's body is looked up in the body around it, at most eight times,
-//! up to the function's. `peek` goes over the program's statements without moving the body. A look and a move take many
-//! statements at once by what the program keeps of them (`gp_isa::Block`), without going into their calls and loops: a
-//! look those whose points are all local, and `advance` those whose points are all work, so that they change no labels. A
-//! look takes a call by the first shared point of its function, and the turns of a loop by the points of one turn.
-//! `advance` takes as many statements as fit, found by steps that double and then by halves, and as many turns of a loop of
-//! work alone (`specs/kept/Passing.antt`). So neither takes time by the points, or by the statements of a row. Only
-//! `vacant`, `stack` and `record` take memory.
+//! Levels find their statements by indices: a loop's body is looked up in the body around it, at most eight times, up
+//! to the function's. Moves look a level up once, and keep what they found while they stay in it. `peek` goes over the
+//! program's statements without moving the body. A look and a move take many statements at once by what the program
+//! keeps of them (`gp_isa::Block`), without going into their calls and loops: a look those whose points are all local,
+//! and `advance` those whose points are all work, so that they change no labels. A look takes a call by the first
+//! shared point of its function, and the turns of a loop by the points of one turn. `advance` takes as many statements
+//! as fit, found by steps that double and then by halves, and as many turns of a loop of work alone
+//! (`specs/kept/Passing.antt`). So neither takes time by the points, or by the statements of a row. Only `vacant`,
+//! `stack` and `record` take memory.
 #![tactic(auto)]
 
 mod body;

@@ -290,5 +290,9 @@ pub(crate) fn look_level(program: &Program, level: Level, outer: &[Level], limit
     requires { level.loops ≤ most_loops }
     ensures { result ≡ peek_of (steps (left_here program.now level (body_at program.now level (reverse outer.now)))) limit }
 {
+    // (two calls, so that what was looked up isn't copied)
+    if level.loops == LOOPS {
+        return look_here(program, level, &program.block(level.function as u32), limit);
+    }
     look_here(program, level, &block(program, level, outer), limit)
 }

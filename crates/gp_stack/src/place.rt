@@ -24,6 +24,13 @@ pub(crate) struct Place {
     pub(crate) outer: Vec<Level>,
 }
 
+/// What going on came to: the points that were passed, and whether the place is at the next point or at the end.
+#[derive(Clone, Copy)]
+struct Crossing {
+    points: u64,
+    settled: bool,
+}
+
 impl Place {
     /// A place with room for so many levels around another one.
     pub(crate) fn vacant(alloc: Global, levels: usize) -> Result<Place, Memory>
@@ -57,8 +64,14 @@ impl Place {
         ensures levels { levels self.new ≡ level ∷ stepped (levels self.old) }
         ensures room { vec_capacity self.new.outer ≡ vec_capacity self.old.outer }
     {
-        self.top.at += 1;
-        self.outer.push_reserved(self.top);
+        // (field by field: a level is written here whose fields were written just before)
+        self.outer.push_reserved(Level {
+            at: self.top.at + 1,
+            turns: self.top.turns,
+            calls: self.top.calls,
+            function: self.top.function,
+            loops: self.top.loops,
+        });
         self.top = level;
     }
 
@@ -261,6 +274,7 @@ impl Place {
         requires place { IsIn program.now self.old }
         requires here { IsHere program.now self.old.top (reverse self.old.outer.items) here.now }
         ensures place { IsIn program.now self.new }
+        ensures here { IsHere program.now self.new.top (reverse self.new.outer.items) here.now }
         ensures few { IfSome result (λ n. n ≤ most) }
         ensures passes { MatchOption result (levels self.new ≡ levels self.old) (Passes program.now (levels self.old) (levels self.new)) }
         ensures falls { IfSome result (λ _. cost program.now (levels self.new) < cost program.now (levels self.old)) }
@@ -271,30 +285,95 @@ impl Place {
         Some(turns * once)
     }
 
-    /// A move towards the next point, which passes at most `most` points of work where statements or turns have no
-    /// others. The level's statements are looked up once.
-    fn hop(&mut self, program: &Program, most: u64) -> Option<u64>
-        requires { IsIn program.now self.old }
+    /// Begins the next turn of the level at whose end the place is, where one comes.
+    fn turn(&mut self, program: &Program, here: &Block<'_>) -> bool
+        requires place { IsIn program.now self.old }
+        requires here { IsHere program.now self.old.top (reverse self.old.outer.items) here.now }
         ensures place { IsIn program.now self.new }
-        ensures few { IfSome result (λ n. n ≤ most) }
-        ensures passes { MatchOption result (left program.now (levels self.new) ≡ left program.now (levels self.old))
-            (Passes program.now (levels self.old) (levels self.new)) }
-        ensures ends { MatchOption result (IsSettled program.now self.new.top (reverse self.new.outer.items))
-            (λ _. cost program.now (levels self.new) < cost program.now (levels self.old)) }
+        ensures here { IsHere program.now self.new.top (reverse self.new.outer.items) here.now }
+        ensures stays { OnFalse result (levels self.new ≡ levels self.old) }
+        ensures left { left program.now (levels self.new) ≡ left program.now (levels self.old) }
+        ensures falls { OnTrue result (cost program.now (levels self.new) < cost program.now (levels self.old)) }
     {
-        let here = self.here(program);
-        if let Some(run) = self.work_here(program, &here, most) {
+        // (it brings what the program is, of which the clauses tell)
+        let _ = program;
+        if self.top.turns == 0 || self.top.at < here.statements.len() {
+            return false;
+        }
+        self.top.turns -= 1;
+        self.top.at = 0;
+        true
+    }
+
+    /// A move towards the next point that stays in its level, which passes at most `most` points of work where statements
+    /// or turns have no others.
+    fn move_within(&mut self, program: &Program, here: &Block<'_>, most: u64) -> Option<u64>
+        requires place { IsIn program.now self.old }
+        requires here { IsHere program.now self.old.top (reverse self.old.outer.items) here.now }
+        ensures place { IsIn program.now self.new }
+        ensures here { IsHere program.now self.new.top (reverse self.new.outer.items) here.now }
+        ensures few { IfSome result (λ n. n ≤ most) }
+        ensures passes { MatchOption result (levels self.new ≡ levels self.old) (Passes program.now (levels self.old) (levels self.new)) }
+        ensures falls { IfSome result (λ _. cost program.now (levels self.new) < cost program.now (levels self.old)) }
+    {
+        if let Some(run) = self.work_here(program, here, most) {
             self.top.at = run.to;
             return Some(run.points);
         }
-        if let Some(n) = self.take_turns(program, &here, most) {
+        if let Some(n) = self.take_turns(program, here, most) {
             return Some(n);
         }
-        if self.step(program, &here) {
+        if self.turn(program, here) {
             Some(0)
         } else {
             None
         }
+    }
+
+    /// Goes on in a level whose statements were looked up, and then into another one, where no point comes before that.
+    /// On the way it passes at most `most` points of work: those of statements and of turns that have no others.
+    fn cross(&mut self, program: &Program, here: &Block<'_>, most: u64) -> Crossing
+        requires place { IsIn program.now self.old }
+        requires here { IsHere program.now self.old.top (reverse self.old.outer.items) here.now }
+        ensures place { IsIn program.now self.new }
+        ensures few { result.points ≤ most }
+        ensures passes { Passes program.now (levels self.old) (levels self.new) result.points }
+        ensures falls { OnFalse result.settled (cost program.now (levels self.new) < cost program.now (levels self.old)) }
+        ensures settled { OnTrue result.settled (IsSettled program.now self.new.top (reverse self.new.outer.items)) }
+    {
+        let mut points = 0;
+        while let Some(n) = self.move_within(program, here, most - points) {
+            points += n;
+        }
+        let moved = self.step(program, here);
+        if moved {
+            return Crossing {
+                points,
+                settled: false,
+            };
+        }
+        Crossing {
+            points,
+            settled: true,
+        }
+    }
+
+    /// The same, where they are looked up.
+    fn cross_level(&mut self, program: &Program, most: u64) -> Crossing
+        requires { IsIn program.now self.old }
+        ensures place { IsIn program.now self.new }
+        ensures few { result.points ≤ most }
+        ensures passes { Passes program.now (levels self.old) (levels self.new) result.points }
+        ensures falls { OnFalse result.settled (cost program.now (levels self.new) < cost program.now (levels self.old)) }
+        ensures settled { OnTrue result.settled (IsSettled program.now self.new.top (reverse self.new.outer.items)) }
+    {
+        // (two calls, so that what was looked up isn't copied)
+        if self.top.loops == LOOPS {
+            let here = program.block(self.top.function as u32);
+            return self.cross(program, &here, most);
+        }
+        let here = self.here(program);
+        self.cross(program, &here, most)
     }
 
     /// Goes on to the next point or to the end, and on the way passes at most `most` points of work, so many as it says:
@@ -307,16 +386,21 @@ impl Place {
         ensures settled { IsSettled program.now self.new.top (reverse self.new.outer.items) }
     {
         let mut passed = 0;
-        while let Some(n) = self.hop(program, most - passed) {
-            passed += n;
+        let mut settled = false;
+        while !settled {
+            let crossing = self.cross_level(program, most - passed);
+            passed += crossing.points;
+            settled = crossing.settled;
         }
         passed
     }
 
     /// Goes past the statement at the place, to the next point or to the end, and on the way passes at most `most`
-    /// points of work, so many as it says: those of statements and of turns that have no others.
-    pub(crate) fn pass(&mut self, program: &Program, most: u64) -> u64
+    /// points of work, so many as it says: those of statements and of turns that have no others. The level's statements
+    /// were looked up.
+    pub(crate) fn pass(&mut self, program: &Program, here: &Block<'_>, most: u64) -> u64
         requires place { IsIn program.now self.old }
+        requires here { IsHere program.now self.old.top (reverse self.old.outer.items) here.now }
         requires next { self.old.top.at + 1 < 2 ^ 64 }
         ensures place { IsIn program.now self.new }
         ensures passes { Passes program.now (stepped (levels self.old)) (levels self.new) result }
@@ -324,7 +408,11 @@ impl Place {
         ensures settled { IsSettled program.now self.new.top (reverse self.new.outer.items) }
     {
         self.skip();
-        self.go_on(program, most)
+        let crossing = self.cross(program, here, most);
+        if crossing.settled {
+            return crossing.points;
+        }
+        crossing.points + self.go_on(program, most - crossing.points)
     }
 
     /// Begins function `f`, with calls followed `calls` deep.

@@ -1,4 +1,5 @@
-use Rattle.std.proofs.Common.{◌≡◌, ◌<◌, ◌≤◌, ◌+◌, ◌-◌, ◌*◌, reverse, arith}
+use Rattle.std.proofs.Common.{◌≡◌, ◌<◌, ◌≤◌, ◌+◌, ◌-◌, ◌*◌, reverse, sym, ◌∙◌, arith}
+use Rattle.gp_stack.proofs.Moves.{body_turning}
 use Rattle.gp_stack.proofs.Costs.{cost_turns}
 use Rattle.gp_stack.proofs.Passing.{passes_turns, turns_fit}
 use Rattle.gp_stack.specs.kept.Place.{room}
@@ -27,4 +28,10 @@ pub returns-clause-place : goal.returns-clause-place
 returns-clause-place c = record {
   fit = fit_turning c.args.program.now (room c.args.program.now) (c.args.self.now.top.turns - c.min-turns.result) c.args.self.now.top (reverse c.args.self.now.outer.items) c.requires.place.fit;
   reserved = c.requires.place.reserved;
+}
+
+pub returns-clause-here : goal.returns-clause-here
+returns-clause-here c = record {
+  statements = c.requires.here.statements ∙ sym (body_turning c.args.program.now c.args.self.now.top (c.args.self.now.top.turns - c.min-turns.result) (reverse c.args.self.now.outer.items));
+  kept = c.requires.here.kept;
 }
