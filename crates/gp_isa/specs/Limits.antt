@@ -5,6 +5,10 @@ use Rattle.std.specs.Prelude.{ℕ, ◌^◌}
 abbrev pub file_bytes : ℕ
 file_bytes = 1048576
 
+-- the bytes of a profile that is read
+abbrev pub profile_bytes : ℕ
+profile_bytes = 67108864
+
 -- the bytes of a name, of a label's key and of its value
 abbrev pub name_bytes : ℕ
 name_bytes = 64

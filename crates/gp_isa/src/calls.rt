@@ -99,7 +99,8 @@ fn go_through(rows: &mut [Row], through: usize)
     }
 }
 
-/// A row for each function, with marks where calls lead: after each round those through one function more.
+/// A row for each function, with marks where calls lead: directly, and with each function that is gone through also
+/// through that one.
 pub fn lead_rows(alloc: Global, parts: &Parts) -> Result<Vec<Row>, Memory>
     requires { AreInLimits parts.now }
     ensures len { IfOk result (λ rows. length rows.items ≡ length parts.now.functions) }

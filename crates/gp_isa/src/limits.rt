@@ -4,6 +4,9 @@ ghost use Rattle.gp_isa.specs.Limits as limit;
 /// The most bytes of a program file.
 pub const FILE_BYTES: usize = 1_048_576;
 
+/// The most bytes of a profile that is read.
+pub const PROFILE_BYTES: usize = 67_108_864;
+
 /// The most bytes of a name, of a label's key and of its value.
 pub const NAME_BYTES: usize = 64;
 
@@ -98,9 +101,10 @@ pub const MUTEX_FRAMES: u32 = 32;
 pub const CPU_FRAMES: u32 = 64;
 
 /// The constants are the limits of the definitions (`specs/Limits.antt`): neither can change alone. These are the
-/// limits of program files.
+/// limits of files that are read, programs and profiles.
 pub fn law_file_limits()
     ensures file_bytes { FILE_BYTES ≡ limit.file_bytes }
+    ensures profile_bytes { PROFILE_BYTES ≡ limit.profile_bytes }
     ensures name_bytes { NAME_BYTES ≡ limit.name_bytes }
     ensures number_digits { NUMBER_DIGITS ≡ limit.number_digits }
     ensures functions { FUNCTIONS ≡ limit.most_functions }

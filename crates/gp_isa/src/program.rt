@@ -135,7 +135,7 @@ impl Program {
 
 /// Checks the parts of a program file. They are tested for `main`, for bodies without a statement, for functions
 /// that can call themselves and for traces that are too long, in this order. `Parts::in_limits` tells whether the
-/// parts may be given. Its time grows with the functions times the statements, and with the cube of the functions.
+/// parts may be given. Its time grows with the statements, and with the cube of the functions, of which there are few.
 pub fn check(alloc: Global, parts: Parts) -> Result<Program, Bad>
     requires { AreInLimits parts }
     ensures ok { IfOk result (λ program. program ≡ parts) }
