@@ -19,7 +19,7 @@ pub use Rattle.gp_journal.proofs.Reached.{some_request, epochs_below}
 -- The numbers of a legal journal's last state: its entries are counted and bounded.
 pub use Rattle.gp_journal.proofs.Totals.{Kept, kept_at, entries_are_counted, entries_are_bounded}
 -- The laws that others build on.
-pub use Rattle.gp_journal.proofs.Law.{rows_are_frozen}
+pub use Rattle.gp_journal.proofs.Law.{rows_are_frozen, epochs_hold, unrecorded_stand}
 pub use Rattle.gp_journal.proofs.OnWorkers.{statuses_match_workers, worker_at}
 -- Who is behind the active epoch; no profile is active where one is asked for, and the active one is the last.
 pub use Rattle.gp_journal.proofs.Steps.{behind_parts, behind_from, none_active, active_last}
@@ -44,7 +44,8 @@ pub use Rattle.gp_journal.proofs.Whole.{seats, live_within, some_same}
 pub use Rattle.gp_journal.proofs.Lengths.{HasPlaces, last_has_places, effect_entries, counted_after}
 pub use Rattle.gp_journal.proofs.Naming.{next_named}
 -- What holds at each place of a list holds after one place is changed, or one is added.
-pub use Rattle.gp_journal.proofs.Places.{changed, pushed, replaced, replaced_within}
+-- (and where a list counts none, no place of it has what is counted)
+pub use Rattle.gp_journal.proofs.Places.{changed, pushed, replaced, replaced_within, none_counted}
 -- How often a goroutine stands in a list, with one more at its head or its tail, and without one.
 pub use Rattle.gp_journal.proofs.InLine.{place, times-cons, times_push, one_at, none_at, other_than}
 pub use Rattle.gp_journal.proofs.InLine.{head_below, length-without, times_without, without_head, without_other, length-of_different}
@@ -60,3 +61,6 @@ pub use Rattle.gp_journal.proofs.BodiesTell.{has_body, runner_live, run_ahead, o
 pub use Rattle.gp_journal.proofs.MovedOn.{moved, as_many}
 -- The waits that Ops end and those at contended unlocks: how they grow, what is foreseen of them, and how long they are.
 pub use Rattle.gp_journal.proofs.Waits.{waits_begin, contentions_begin, waits_grow, contentions_grow, foreseen_is, wait_fits, contention_fits}
+-- Journals of worked programs: their traces, and whether entries are legal, computed.
+pub use Rattle.gp_journal.proofs.Journals.{with_traces, code_is, wake_traces, wake_same, pair_traces, pair_same}
+pub use Rattle.gp_journal.proofs.Allows.{allows, allowed, allows_legal, allows_all, legal_from}

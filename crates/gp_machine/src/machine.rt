@@ -18,7 +18,7 @@ use crate::at_point::AtPoint;
 use crate::present::Present;
 use gp_isa::limits::REQUESTS;
 use gp_isa::{Memory, Program, Sequence};
-use gp_journal::{Applied, Ended, Entry, Foreseen, Journal, Run, Settings, SharedPoint};
+use gp_journal::{Applied, Ended, Entry, Foreseen, Goroutine, Journal, Run, Settings, SharedPoint};
 use gp_stack::{Operation, Peek};
 use std::alloc::Global;
 use std::marker::Model;
@@ -252,6 +252,13 @@ impl<R: Run> Machine<R> {
         ensures { result ≡ (goroutine (state_of R.program R.settings self.now) g).epoch }
     {
         self.present.goroutine(g).epoch
+    }
+
+    /// Goroutine `g`, as it stands.
+    pub fn goroutine(&self, g: u32) -> Goroutine
+        ensures { result ≡ goroutine (state_of R.program R.settings self.now) g }
+    {
+        self.present.goroutine(g)
     }
 
     /// The goroutine that worker `w` runs, if any.
