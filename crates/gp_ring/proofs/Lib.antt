@@ -14,3 +14,10 @@ pub mod Keeping
 pub mod Writing
 pub mod Rounding
 pub mod Acting
+pub mod Tracing
+pub mod LaneWords
+pub mod LaneSteps
+pub mod LaneViews
+pub mod LaneLoads
+pub mod LanePushing
+pub mod LanePulling

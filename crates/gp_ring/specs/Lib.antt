@@ -4,4 +4,7 @@ pub mod Calls
 pub mod Follows
 pub mod Offered
 pub mod Shown
+pub mod Counts
+pub mod Ends
+pub mod Answers
 pub mod kept

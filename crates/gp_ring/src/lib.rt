@@ -31,6 +31,7 @@
 mod emit;
 mod gather;
 mod hand;
+pub mod lane;
 mod laws;
 mod ring;
 mod taken;

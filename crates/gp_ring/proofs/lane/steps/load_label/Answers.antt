@@ -1,0 +1,12 @@
+use Rattle.std.proofs.Common.{arith}
+use mathlib.Core.Option.{none}
+use Rattle.atomic_table.specs.Table.{step}
+use Rattle.gp_ring.proofs.LaneSteps.{loads_label}
+use Rattle.gp_ring.proofs.lane.steps.load_label.Goals as goal
+
+pub load-requires : goal.load-requires
+load-requires c = (
+  c.requires.table,
+  omega (arith, c.requires.size, c.requires.within, c.requires.len),
+  loads_label _ _ c.args.len c.args.place _ (step 0 0 0 0 none) c.requires.reads c.requires.len c.requires.due,
+)
