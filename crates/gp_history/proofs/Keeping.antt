@@ -1,15 +1,15 @@
 -- A history keeps all of a run over each kind of entry.
-use Rattle.std.proofs.Common.{◌≡◌, ◌-◌, ℕ, true, false, List, [], ◌∷◌, ◌++◌, length, Some, refl, sym, ◌∙◌}
+use Rattle.std.proofs.Common.{◌≡◌, ◌-◌, ℕ, true, false, List, [], ◌∷◌, ◌++◌, length, refl, ◌∙◌}
 use Rattle.gp_isa.specs.declared.frame.Frame.{Frame}
 use Rattle.gp_isa.specs.declared.parts.Parts.{Parts}
 use Rattle.gp_stack.specs.declared.record.Record.{Record as Row}
 use Rattle.gp_events.specs.Fraction.{choice_after}
 use Rattle.gp_journal.specs.declared.answer.Foreseen.{Foreseen}
 use Rattle.gp_journal.specs.declared.entry.Entry.{Entry}
-use Rattle.gp_journal.specs.declared.entry.Entry.TheVariants.{Start, Run, Op, Tick, Park, Open, Refuse, Record, Close}
+use Rattle.gp_journal.specs.declared.entry.Entry.TheVariants.{Op, Open, Record, Close}
 use Rattle.gp_journal.specs.declared.settings.Settings.{Settings}
 use Rattle.gp_journal.specs.Settings.{AreInRange}
-use Rattle.gp_journal.specs.State.{Code, State, code_of, goroutine, worker}
+use Rattle.gp_journal.specs.State.{Code, State, code_of, goroutine}
 use Rattle.gp_journal.specs.May.{May}
 use Rattle.gp_journal.specs.Answer.{foreseen}
 use Rattle.gp_journal.specs.Frozen.{row}

@@ -1,33 +1,33 @@
 -- What is kept of waits goes on with each entry.
-use Rattle.std.proofs.Common.{◌≡◌, ◌+◌, ◌-◌, ◌*◌, ◌^◌, ◌==◌, ◌≤◌, ◌<◌, ℕ, suc, Bool, true, false, ◌&&◌, List, [], ◌∷◌, ◌++◌, length, map, Option, Some, None, if◌then◌else◌, refl, sym, ap, ◌∙◌, subst, arith, add-zero, zero-add}
+use Rattle.std.proofs.Common.{◌≡◌, ◌+◌, ◌-◌, ◌*◌, ◌^◌, ◌==◌, ◌≤◌, ◌<◌, ℕ, suc, Bool, true, false, List, [], ◌∷◌, ◌++◌, length, map, Option, Some, None, if◌then◌else◌, refl, sym, ap, ◌∙◌, subst, arith, add-zero, zero-add}
 use Rattle.std.specs.List.{AllByRecursion}
-use Rattle.std.proofs.lemmas.Bool.{and_parts, eqb-true, eqb-false, ne_eqb, eq-eqb}
+use Rattle.std.proofs.lemmas.Bool.{and_parts, eqb-false}
 use Rattle.std.proofs.lemmas.List.{append-nil, map-append, length-append}
 use Rattle.std.proofs.Math.Nat.{mul-le-mul_left}
 use Rattle.gp_isa.specs.declared.frame.Frame.{Frame}
 use Rattle.gp_isa.specs.declared.parts.Parts.{Parts}
 use Rattle.gp_events.specs.declared.sum.Sum.{Sum}
 use Rattle.gp_events.specs.Event.{Event}
-use Rattle.gp_events.specs.Sums.{sums, added, total_count, total_delay}
+use Rattle.gp_events.specs.Sums.{sums, added}
 use Rattle.gp_events.specs.Fraction.{Choice, is_kept, keeps_next, behind_next, choice_after}
 use Rattle.gp_events.proofs.Lemmas.{sums_begin, sums_grow, total_count-added, total_delay-added, goes_on}
 use Rattle.gp_journal.specs.declared.entry.Entry.{Entry}
-use Rattle.gp_journal.specs.declared.entry.Entry.TheVariants.{Start, Run, Op, Tick, Park, Open, Refuse, Record, Close}
+use Rattle.gp_journal.specs.declared.entry.Entry.TheVariants.{Op}
 use Rattle.gp_journal.specs.declared.goroutine.Goroutine.{Goroutine}
 use Rattle.gp_journal.specs.declared.settings.Settings.{Settings}
 use Rattle.gp_journal.specs.Settings.{AreInRange}
 use Rattle.gp_journal.specs.State.{Code, State, code_of, goroutine}
 use Rattle.gp_journal.specs.Due.{next_instruction}
-use Rattle.gp_journal.specs.Answer.{foreseen, block_delay, contention_of, instruction_time}
+use Rattle.gp_journal.specs.Answer.{foreseen, block_delay, instruction_time}
 use Rattle.gp_journal.specs.Reached.{IsReached}
 use Rattle.gp_journal.specs.Run.{IsLegal, last}
 use Rattle.gp_journal.specs.Waits.{Waited, cut_stack, wait_ended, hands_over_to, wait_for, contention_by, ended_at, contention_at, waits_of, contentions_of}
-use Rattle.gp_journal.specs.WaitsLaw.{first_delay, IsForeseen}
+use Rattle.gp_journal.specs.WaitsLaw.{first_delay}
 use Rattle.gp_journal.proofs.Lemmas.{waits_begin, contentions_begin, waits_grow, contentions_grow, foreseen_is, wait_fits, contention_fits, clock_fits, entries_are_bounded}
 use Rattle.gp_history.specs.declared.op_event.OpEvent.{OpEvent}
 use Rattle.gp_history.specs.declared.op_event.OpEvent.TheVariants.{Nothing, Block, Mutex, Skipped}
 use Rattle.gp_history.specs.Events.{counted, weighed, block_events, kept_from, mutex_events, unlocks_so_far, unlock_event, event_foreseen, event_of, frames_of}
-use Rattle.gp_history.specs.kept.Waits.{KeptWaits, are_off, mutex_event, event_by, one_at, some_at, noted, HasRoomFor, MayNote, words_taken, AreBounded, AreWaits}
+use Rattle.gp_history.specs.kept.Waits.{KeptWaits, are_off, mutex_event, event_by, one_at, some_at, noted, MayNote, AreBounded, AreWaits}
 
 -- The events of a journal, by its waits.
 abbrev block_by : Settings → List Waited → List Event

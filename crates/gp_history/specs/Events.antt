@@ -4,7 +4,6 @@ use Rattle.gp_isa.specs.Limits.{block_frames, mutex_frames}
 use Rattle.gp_isa.specs.declared.parts.Parts.{Parts}
 use Rattle.gp_events.specs.Event.{Event}
 use Rattle.gp_events.specs.Fraction.{is_kept}
-use Rattle.gp_journal.specs.declared.answer.Foreseen.{Foreseen}
 use Rattle.gp_journal.specs.declared.entry.Entry.{Entry}
 use Rattle.gp_journal.specs.declared.settings.Settings.{Settings}
 use Rattle.gp_journal.specs.State.{Code, code_of}
@@ -66,3 +65,9 @@ frames_of Nothing = 0
 frames_of (Block delay) = block_frames
 frames_of (Mutex delay) = mutex_frames
 frames_of Skipped = 0
+
+-- whether one is added to the sums
+abbrev pub AddsEvent : OpEvent → Type 0
+AddsEvent (Block delay) = Unit {0}
+AddsEvent (Mutex delay) = Unit {0}
+AddsEvent _ = ⊥

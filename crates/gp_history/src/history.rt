@@ -14,7 +14,7 @@ ghost use Rattle.gp_machine.specs.AtPoint.{at_point};
 ghost use Rattle.gp_machine.specs.OnWorker.{OpIsDueOn, IsNextOn};
 ghost use Rattle.gp_events.specs.Sums.{sums};
 ghost use Rattle.gp_history.specs.History.{IsPlain, IsEventOn, most_rows};
-ghost use Rattle.gp_history.specs.Events.{block_events, mutex_events, event_of, frames_of};
+ghost use Rattle.gp_history.specs.Events.{block_events, mutex_events, event_of, frames_of, AddsEvent};
 
 use crate::op_event::OpEvent;
 use crate::recorder::Recorder;
@@ -29,8 +29,8 @@ use std::marker::Model;
 /// What a run has left so far: the machine, the records of its goroutine profiles, and the sums of its block and mutex
 /// events.
 ///
-/// Its value is the journal, which is legal; what is kept are functions of it. Beside `new` only `operate` takes memory,
-/// where an event is added.
+/// Its value is the journal, which is legal; what is kept are functions of it. Beside `new` only `operate` and `enter_op`
+/// take memory, where an event is added.
 #[derive(Debug, Drop)]
 pub struct History<R: Run> {
     machine: Machine<R>,
@@ -130,9 +130,34 @@ impl<R: Run> History<R> {
         ensures at_point { IfOk result (λ at. at
             ≡ at_point (applied (code_of R.program) R.settings (state_of R.program R.settings self.old) (entry.Op w g))) }
         ensures err { OnErr result (self.new ≡ self.old) }
+        ensures memory { OnErr result (AddsEvent event) }
     {
         self.waits.note(event, stack)?;
         Ok(self.machine.make(Entry::Op { w, g }, Some(point)))
+    }
+
+    /// Makes the Op of g as `operate` does, and tells all that it did.
+    pub fn enter_op(
+        &mut self,
+        w: u32,
+        g: u32,
+        point: SharedPoint,
+        event: OpEvent,
+        stack: Stack,
+    ) -> Result<Applied, Memory>
+        requires may { May (code_of R.program) R.settings (state_of R.program R.settings self.old) (entry.Op w g) }
+        requires point { IsPointOf (code_of R.program) (state_of R.program R.settings self.old) g point }
+        requires event { event ≡ event_of R.program R.settings self.old g }
+        requires stack { stack
+            ≡ cut_stack (frames_of event) (code_of R.program) (goroutine (state_of R.program R.settings self.old) g) }
+        ensures journal { OnOk result (self.new ≡ self.old ++ entry.Op w g ∷ []) }
+        ensures answer { IfOk result (λ it. it
+            ≡ applied (code_of R.program) R.settings (state_of R.program R.settings self.old) (entry.Op w g)) }
+        ensures err { OnErr result (self.new ≡ self.old) }
+        ensures memory { OnErr result (AddsEvent event) }
+    {
+        self.waits.note(event, stack)?;
+        Ok(self.machine.apply(Entry::Op { w, g }, Some(point)))
     }
 
     /// A profile is opened.

@@ -6,14 +6,15 @@
 //! are the rows of its Record entries in their order (`records_of` of `gp_journal`), so that sorted they are the rows of
 //! all goroutines that were live at its Open; and the sums of its block and mutex events (`specs/Events.antt`). There is
 //! one call for each kind of entry, in place, which takes what the entry leaves and carries all of that on: `enter` for
-//! entries of workers that are no Op and for a Refuse, `operate` for an Op, `open`, `record` with the copy of the
-//! goroutine's row, and `close`. Who acts, and where bodies stand, is the driver's.
+//! entries of workers that are no Op and for a Refuse, `operate` for an Op, or `enter_op` where all that it did is to be
+//! told, `open`, `record` with the copy of the goroutine's row, and `close`. Who acts, and where bodies stand, is the
+//! driver's.
 //!
-//! Beside `new` only `operate` takes memory, where an event is added whose stack wasn't met before, and it does so before
-//! anything changes. `new` reserves a list for each request, with room for as many records as a profile can have: no more
-//! than there are cells, and no more than the room that the options give, above which a profile is refused. That it is
-//! enough follows from a law of journals: the records made and the goroutines that have still to be recorded are together
-//! those that were live at the Open.
+//! Beside `new` only the two calls for an Op take memory, where an event is added whose stack wasn't met before, and they
+//! do so before anything changes. `new` reserves a list for each request, with room for as many records as a profile can
+//! have: no more than there are cells, and no more than the room that the options give, above which a profile is refused.
+//! That it is enough follows from a law of journals: the records made and the goroutines that have still to be recorded
+//! are together those that were live at the Open.
 //!
 //! What one Record leaves: `main` has spawned goroutine 1, and one profile is asked for, with room for three records.
 //! `·` is a place that is reserved. `record(1, 0, copy)` is the profiler's entry for goroutine 0, which stands at line 3

@@ -1,5 +1,6 @@
 ghost use Rattle.std.specs.Prelude.{◌≡◌, [], IfOk, OnOk, OnErr};
 ghost use Rattle.gp_events.specs.Fraction.{choice_after};
+ghost use Rattle.gp_history.specs.Events.{AddsEvent};
 ghost use Rattle.gp_history.specs.kept.Waits.{are_off, block_event, mutex_event, event_by, noted, MayNote};
 
 use crate::op_event::OpEvent;
@@ -112,11 +113,12 @@ impl WaitSums {
         Ok(())
     }
 
-    /// Goes on by what an Op leaves, with its stack. Where there is no memory all stays.
+    /// Goes on by what an Op leaves, with its stack. Where there is no memory for an event that is added all stays.
     pub fn note(&mut self, event: OpEvent, stack: Stack) -> Result<(), Memory>
         requires { MayNote self.old event }
         ensures ok { OnOk result (self.new ≡ noted event stack self.old) }
         ensures err { OnErr result (self.new ≡ self.old) }
+        ensures memory { OnErr result (AddsEvent event) }
     {
         match event {
             OpEvent::Nothing => Ok(()),

@@ -7,7 +7,3 @@ pub mod Enabled
 pub mod Complete
 pub mod Turns
 pub mod Stepping
-pub mod Rounded
-pub mod Frames
-pub mod ReadOut
-pub mod Offers

@@ -1,14 +1,12 @@
 -- A simulation goes on by one entry.
-use Rattle.std.proofs.Common.{◌≡◌, ◌<◌, ◌≤◌, ℕ, Bool, true, List, [], ◌∷◌, ◌++◌, length, get_or, Some, take, map, refl, sym, ap, ◌∙◌, subst, arith, unwrap_or, length-set, length-append, ◌*◌}
+use Rattle.std.proofs.Common.{◌≡◌, ◌<◌, ◌≤◌, ℕ, Bool, true, List, [], ◌∷◌, ◌++◌, length, get_or, Some, refl, sym, ap, ◌∙◌, subst, arith, unwrap_or, length-set, length-append}
 use Rattle.gp_isa.specs.declared.parts.Parts.{Parts}
 use Rattle.gp_isa.specs.Checked.{main_of}
-use Rattle.gp_isa.specs.Limits.{cpu_frames}
 use Rattle.gp_isa.specs.Trace.{trace}
 use Rattle.gp_stack.specs.declared.statement.Operation.TheVariants as operation
-use Rattle.gp_stack.specs.Body.{Progress, stack_at, IsAtShared}
+use Rattle.gp_stack.specs.Body.{Progress, IsAtShared}
 use Rattle.gp_stack.specs.declared.record.Record.{Record as Row}
-use Rattle.gp_stack.specs.Goroutine.{next_point, stack_of, labels_of, local_ahead}
-use Rattle.gp_stack.specs.Word.{word_of}
+use Rattle.gp_stack.specs.Goroutine.{next_point, labels_of, local_ahead}
 use Rattle.gp_stack.specs.Peek.{operation_of}
 use Rattle.gp_stack.specs.Record.{record_of}
 use Rattle.gp_journal.specs.declared.answer.Applied.{Applied}
@@ -22,7 +20,7 @@ use Rattle.gp_journal.specs.Settings.{AreInRange}
 use Rattle.gp_journal.specs.Frozen.{row}
 use Rattle.gp_journal.specs.May.{May}
 use Rattle.gp_journal.specs.Effect.{after}
-use Rattle.gp_journal.specs.Answer.{op_answer, instruction_time}
+use Rattle.gp_journal.specs.Answer.{op_answer}
 use Rattle.gp_journal.specs.Run.{last}
 use Rattle.gp_journal.specs.NumberLaws.{most_entries}
 use Rattle.gp_journal.specs.Reached.{IsReached}
@@ -33,7 +31,6 @@ use Rattle.gp_machine.specs.declared.at_point.AtPoint.{AtPoint}
 use Rattle.gp_machine.specs.declared.at_point.AtPoint.TheVariants.{Bears}
 use Rattle.gp_machine.specs.AtPoint.{at_point}
 use Rattle.gp_history.specs.History.{IsPlain}
-use Rattle.gp_cpu.specs.Samples.{sample_of}
 use Rattle.gp_sim.specs.kept.Bodies.{gone_on, joined}
 use Rattle.gp_sim.specs.kept.Simulation.{IsSimulation, IsQuiet, BearsNobody}
 
@@ -130,16 +127,6 @@ module _ (program : Parts) (settings : Settings) (journal : List Entry) (bodies 
 
   pub recorded_row : (actor g : ℕ) (copy : Row) → May (code_of program) settings now (Record actor g) → copy ≡ record_of program g (get_or bodies g nowhere) → copy ≡ row (code_of program) g (goroutine now g)
   recorded_row actor g copy may e = row_is program settings now here it.in_range bodies it.its_bodies g copy ((behind_parts now.active (goroutine now g) may.unrecorded).0) e
-
-  -- what a body tells of its goroutine is the sample
-  pub sample_is : (w g time tag : ℕ) (stack : List ℕ) → (worker now w).runs ≡ Some g → time ≡ instruction_time * now.clock →
-      tag ≡ labels_of (trace program (get_or bodies g nowhere).start) (get_or bodies g nowhere).set (get_or bodies g nowhere).count → stack ≡ map word_of (take cpu_frames (stack_at program (get_or bodies g nowhere))) →
-      record { time = time; tag = tag; header = 1 ∷ []; stack = stack } ≡ sample_of (code_of program) now (goroutine now g)
-  sample_is w g time tag stack runs at_time labels words =
-      let stands = runner_stands w g runs in
-      let tag_is : tag ≡ labels_of (trace program (goroutine now g).start) (goroutine now g).set (goroutine now g).count = labels ∙ ap (λ (p : Progress). labels_of (trace program p.start) p.set p.count) stands in
-      let stack_is : stack ≡ map word_of (take cpu_frames (stack_of (trace program (goroutine now g).start) (goroutine now g).count)) = words ∙ ap (λ (p : Progress). map word_of (take cpu_frames (stack_at program p))) stands in
-      λ i. record { time = at_time i; tag = tag_is i; header = 1 ∷ []; stack = stack_is i }
 
   -- there is room for an entry that may come
   pub entry_fits : (made : Entry) → May (code_of program) settings now made → length journal < most_entries settings

@@ -14,17 +14,20 @@ use Rattle.gp_journal.proofs.Lemmas.{entries_are_bounded, appended}
 use Rattle.gp_ring.specs.Records.{Offer, RingRecord, Sample, Loss, Covers}
 use Rattle.gp_ring.specs.PlainRing.{has_more, looked, records_taken, unread_records, pending_records, closed}
 use Rattle.gp_cpu.specs.Samples.{samples_of_journal}
-use Rattle.gp_sim.specs.Choice.{SoFar, begun, actions, acts_of, chosen, next_turn, after_act, after_turn, after_turns, behind_turn, most_turns, sim_run, sim_journal, sim_records, taken_to_end, ring_len, ring_tags}
+use Rattle.gp_samples.specs.RunRing.{taken_to_end}
+use Rattle.gp_samples.specs.RunRingLaw.{AllRead}
+use Rattle.gp_samples.proofs.Offers.{samples_number}
+use Rattle.gp_samples.proofs.ReadOut.{more_takes}
+use Rattle.gp_samples.proofs.Keeping.{begun_keeps, entry_keeps, read_keeps, readable, all_read}
+use Rattle.gp_sim.specs.Choice.{SoFar, begun, actions, acts_of, chosen, next_turn, after_act, after_turn, after_turns, behind_turn, most_turns, sim_run, sim_journal, sim_records}
 use Rattle.gp_sim.specs.declared.numbers.Act.{Act}
 use Rattle.gp_sim.specs.declared.numbers.Act.TheVariants.{Make, Read}
 use Rattle.gp_sim.specs.declared.numbers.Turn.{Turn}
-use Rattle.gp_sim.specs.ChoiceLaw.{MayAct, BeginWithHead, SimIsFinished, SimIsCovered, SimBeginsWithHead}
-use Rattle.gp_sim.specs.kept.Simulation.{TakesTurn, KeepsRing, after_turn_if}
+use Rattle.gp_sim.specs.ChoiceLaw.{MayAct, SimIsFinished, SimIsCovered, SimBeginsWithHead}
+use Rattle.gp_sim.specs.kept.Simulation.{TakesTurn, KeepsItsRing, after_turn_if}
 use Rattle.gp_sim.specs.kept.Turns.{IsPartOfSim}
 use Rattle.gp_sim.proofs.Enabled.{chosen_may, chosen_among}
 use Rattle.gp_sim.proofs.Complete.{none_turns}
-use Rattle.gp_sim.proofs.Offers.{begun_keeps, entry_keeps, read_keeps, readable, samples_number}
-use Rattle.gp_sim.proofs.ReadOut.{more_takes, read_out}
 
 -- A turn takes at most one number.
 takes_one : (settings : Settings) (taken : ℕ) (acts : List Act) (turn : Turn) → chosen settings taken acts ≡ Some turn → turn.taken ≤ taken + 1
@@ -114,26 +117,24 @@ module _ (program : Parts) (settings : Settings) (range : AreInRange settings) w
     -- what an act leaves
     record Leaves (next : SoFar) : Type 0 where
       legal : IsLegal (code_of program) settings next.journal
-      ring : KeepsRing program settings next
+      ring : KeepsItsRing program settings next
       more : length run.journal + length run.records + 1 ≤ length next.journal + length next.records
       one : length next.journal ≤ length run.journal + 1
 
     leaves : (act : Act) (taken : ℕ) → MayAct (code_of program) settings (last (code_of program) settings run.journal) act → ReadsMore (has_more run.ring) act →
         Leaves (record (after_act (code_of program) settings run act) { taken = taken })
     leaves (Make entry) taken may reads =
-        let keeps = entry_keeps program settings range run part.ring entry in
         record {
           legal = appended (code_of program) settings (first (code_of program) settings) run.journal entry part.legal may;
-          ring = record { header = keeps.header; words = keeps.words; tags = keeps.tags; is_open = keeps.is_open; follows = keeps.follows; whole = keeps.whole };
+          ring = entry_keeps program settings range run.journal run.records run.ring part.ring entry;
           more = omega (arith, length-append run.journal (entry ∷ []));
           one = omega (arith, length-append run.journal (entry ∷ []));
         }
     leaves Read taken may reads =
-        let keeps = read_keeps program settings range run part.ring in
-        let some = more_takes run.ring (readable program settings range run part.ring) reads in
+        let some = more_takes run.ring (readable program settings range run.journal run.records run.ring part.ring) reads in
         record {
           legal = part.legal;
-          ring = record { header = keeps.header; words = keeps.words; tags = keeps.tags; is_open = keeps.is_open; follows = keeps.follows; whole = keeps.whole };
+          ring = read_keeps program settings range run.journal run.records run.ring part.ring;
           more = omega (arith, length-append run.records (records_taken (looked run.ring)));
           one = omega arith;
         }
@@ -195,17 +196,10 @@ pub sim_is_finished : SimIsFinished
 sim_is_finished program settings range =
     at_end program settings range (λ run. IsFinished (code_of program) settings run.journal) (λ turns run whole. (ends program settings range turns run whole.part whole.none).1)
 
-pub record AllRead (program : Parts) (settings : Settings) (journal : List Entry) (records : List RingRecord) : Type 0 where
-  pub covered : Covers records (samples_of_journal (code_of program) settings journal)
-  pub begins : BeginWithHead program settings journal records
-
 -- what a run has read once its ring is read to its end
 pub read_whole : (program : Parts) (settings : Settings) → AreInRange settings → (turns : ℕ) (run : SoFar) → IsPartOfSim program settings turns run →
     AllRead program settings run.journal (run.records ++ taken_to_end 3 (closed run.ring))
-read_whole program settings range turns run part =
-    let all = read_out (ring_len program settings) (ring_tags settings) (samples_of_journal (code_of program) settings run.journal) run.records run.ring part.ring.follows
-    (readable program settings range run part.ring) part.ring.words part.ring.tags in
-    record { covered = all.covered; begins = all.begins }
+read_whole program settings range turns run part = all_read program settings range run.journal run.records run.ring part.ring
 
 -- the entries and the turns of a run, those to the end of its ring too
 pub entries_at_end : (program : Parts) (settings : Settings) → AreInRange settings → (turns : ℕ) (run : SoFar) → IsPartOfSim program settings turns run → length run.journal ≤ most_entries settings

@@ -1,10 +1,8 @@
 -- The choice by numbers: in each turn one of the actors that can act does, and which one is told by the next number.
-use Rattle.std.specs.Prelude.{◌+◌, ◌-◌, ◌*◌, ◌%◌, ℕ, zero, suc, Bool, true, false, ◌&&◌, ◌||◌, ◌==◌, List, [], ◌∷◌, ◌++◌, length, get_or, map, max, min, if◌then◌else◌, nat_lt, nat_le, Option, Some, None}
+use Rattle.std.specs.Prelude.{◌+◌, ◌-◌, ◌*◌, ◌%◌, ℕ, zero, suc, Bool, ◌&&◌, ◌||◌, ◌==◌, List, [], ◌∷◌, ◌++◌, length, get_or, map, if◌then◌else◌, nat_lt, nat_le, Option, Some, None}
 use Rattle.rand_pcg.specs.Lcg.{Lcg, started, advance, increment_of}
 use Rattle.rand_pcg.specs.Pcg.{multiplier_64, output_xsh_rr}
 use Rattle.gp_isa.specs.declared.parts.Parts.{Parts}
-use Rattle.gp_isa.specs.Limits.{cpu_frames}
-use Rattle.gp_isa.specs.Size.{depth_of}
 use Rattle.gp_journal.specs.declared.entry.Entry.{Entry}
 use Rattle.gp_journal.specs.declared.entry.Entry.TheVariants.{Start, Open, Refuse, Record, Close}
 use Rattle.gp_journal.specs.declared.settings.Settings.{Settings}
@@ -14,10 +12,10 @@ use Rattle.gp_journal.specs.Run.{last}
 use Rattle.gp_journal.specs.Standing.{first_behind}
 use Rattle.gp_journal.specs.Standing.{head_of}
 use Rattle.gp_journal.specs.NumberLaws.{most_entries}
-use Rattle.gp_layout.specs.Spelling.{size_of}
-use Rattle.gp_ring.specs.Records.{Offer, RingRecord}
-use Rattle.gp_ring.specs.PlainRing.{PlainRing, Found, End, empty_ring, written, closed, looked, acted, records_taken, has_more}
-use Rattle.gp_cpu.specs.Samples.{rate_record, sampled_at}
+use Rattle.gp_ring.specs.Records.{RingRecord}
+use Rattle.gp_ring.specs.PlainRing.{PlainRing, closed, looked, acted, records_taken, has_more}
+use Rattle.gp_cpu.specs.Samples.{sampled_at}
+use Rattle.gp_samples.specs.RunRing.{begun_ring, with_offers, taken_to_end}
 use Rattle.gp_sim.specs.declared.numbers.Act.{Act}
 use Rattle.gp_sim.specs.declared.numbers.Act.TheVariants.{Make, Read}
 use Rattle.gp_sim.specs.declared.numbers.Turn.{Turn}
@@ -94,47 +92,6 @@ chosen settings taken [] = None
 chosen settings taken (only ∷ []) = Some (record { act = only; taken = taken })
 chosen settings taken (one ∷ other ∷ more) =
     let among = one ∷ other ∷ more in Some (record { act = get_or among (number settings taken % length among) one; taken = taken + 1 })
-
--- ---- the ring
-
--- the least power of two that is n or more: of a power of two and so many doublings of it
-abbrev pub rounded_from : ℕ → ℕ → ℕ → ℕ
-rounded_from zero power n = power
-rounded_from (suc doublings) power n = if nat_le n power then power else rounded_from doublings (2 * power) n
-
--- of all up to 2^32
-abbrev pub rounded : ℕ → ℕ
-rounded n = rounded_from 32 1 n
-
--- The words that a run's ring is to have: those of the option, and no fewer than twice those of its longest sample.
-abbrev pub ring_words : Parts → Settings → ℕ
-ring_words program settings = max settings.ring (2 * size_of 1 (min cpu_frames (depth_of program)))
-
--- Its words and its tags are powers of two.
-abbrev pub ring_len : Parts → Settings → ℕ
-ring_len program settings = rounded (ring_words program settings)
-
-abbrev pub ring_tags : Settings → ℕ
-ring_tags settings = rounded settings.tags
-
--- As a run begins the rate record is offered to its empty ring.
-abbrev pub begun_ring : Parts → Settings → PlainRing
-begun_ring program settings = written (empty_ring 1 (ring_len program settings) (ring_tags settings)) (rate_record settings)
-
--- offers that are made to a ring one after another
-abbrev pub with_offers : PlainRing → List Offer → PlainRing
-with_offers ring [] = ring
-with_offers ring (offer ∷ offers) = with_offers (written ring offer) offers
-
-abbrev pub is_end : Found → Bool
-is_end End = true
-is_end _ = false
-
--- What reads take until one finds the end, so many reads at most.
-unfoldable pub taken_to_end : ℕ → PlainRing → List RingRecord
-taken_to_end zero ring = []
-taken_to_end (suc reads) ring =
-    let next = acted (looked ring) in records_taken (looked ring) ++ (if is_end next.hand then [] else taken_to_end reads next)
 
 -- ---- the turns
 

@@ -1,6 +1,5 @@
 -- Laws of the choice by numbers.
-use Rattle.std.specs.Prelude.{◌≡◌, ◌≤◌, ◌++◌, ◌^◌, ℕ, Bool, List, [], All, Some}
-use Rattle.std.specs.Int.{IsNextPowerOfTwo}
+use Rattle.std.specs.Prelude.{◌≡◌, ℕ, Bool, List, [], All, Some}
 use Rattle.gp_isa.specs.declared.parts.Parts.{Parts}
 use Rattle.gp_journal.specs.declared.entry.Entry.{Entry}
 use Rattle.gp_journal.specs.declared.settings.Settings.{Settings}
@@ -9,10 +8,10 @@ use Rattle.gp_journal.specs.State.{Code, State, code_of}
 use Rattle.gp_journal.specs.Due.{IsComplete}
 use Rattle.gp_journal.specs.May.{May}
 use Rattle.gp_journal.specs.Run.{IsLegal, last, IsFinished}
-use Rattle.gp_ring.specs.Records.{Covers, RingRecord, head}
-use Rattle.gp_ring.specs.Follows.{samples}
+use Rattle.gp_ring.specs.Records.{Covers}
 use Rattle.gp_cpu.specs.Samples.{samples_of_journal}
-use Rattle.gp_sim.specs.Choice.{actions, acts_of, chosen, rounded, ring_len, ring_tags, sim_journal, sim_records}
+pub use Rattle.gp_samples.specs.RunRing.{BeginWithHead}
+use Rattle.gp_sim.specs.Choice.{actions, acts_of, chosen, sim_journal, sim_records}
 use Rattle.gp_sim.specs.declared.numbers.Act.{Act}
 use Rattle.gp_sim.specs.declared.numbers.Act.TheVariants.{Make, Read}
 use Rattle.gp_sim.specs.declared.numbers.Turn.{Turn}
@@ -50,18 +49,7 @@ abbrev pub SimIsCovered : Type 0
 SimIsCovered = (program : Parts) (settings : Settings) → AreInRange settings →
     Covers (sim_records program settings) (samples_of_journal (code_of program) settings (sim_journal program settings))
 
--- records begin with the head of the samples of a journal, each delivered
-abbrev pub BeginWithHead : Parts → Settings → List Entry → List RingRecord → Type 0
-BeginWithHead program settings journal records =
-    (rest : List RingRecord)
-    × (samples (head 1 (ring_len program settings) (ring_tags settings) (samples_of_journal (code_of program) settings journal)) ++ rest
-    ≡ records)
-
 -- and begin with their head.
 abbrev pub SimBeginsWithHead : Type 0
 SimBeginsWithHead = (program : Parts) (settings : Settings) → AreInRange settings →
     BeginWithHead program settings (sim_journal program settings) (sim_records program settings)
-
--- What is rounded up is the next power of two.
-abbrev pub RoundedIsNext : Type 0
-RoundedIsNext = (n : ℕ) → n ≤ 2 ^ 32 → IsNextPowerOfTwo n (rounded n)

@@ -4,4 +4,3 @@ pub mod Bodies
 pub mod Simulation
 pub mod Numbers
 pub mod Acting
-pub mod Reading

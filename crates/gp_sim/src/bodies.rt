@@ -4,7 +4,6 @@ ghost use Rattle.gp_stack.specs.Body.{progress_of, stack_at, is_over_at, StandsI
 ghost use Rattle.gp_stack.specs.Goroutine.{labels_of, local_ahead};
 ghost use Rattle.gp_stack.specs.Peek.{then_at};
 ghost use Rattle.gp_stack.specs.Record.{record_of};
-ghost use Rattle.gp_stack.specs.Word.{word_of};
 ghost use Rattle.gp_journal.specs.Bodies.{nowhere, moved_on};
 ghost use Rattle.gp_sim.specs.kept.Bodies.{Shows, gone_on, joined};
 
@@ -80,8 +79,17 @@ impl<R: Run> Bodies<R> {
         self.bodies[g as usize].peek(program, limit)
     }
 
-    /// The labels of g.
-    pub fn labels(&self, g: u32) -> u8
+    /// The body of g.
+    pub fn body(&self, g: u32) -> &Body
+        requires { g < length self.now }
+        ensures stands { StandsIn R.program result.now }
+        ensures place { progress_of result.now ≡ get_or self.now g nowhere }
+    {
+        &self.bodies[g as usize]
+    }
+
+    // The labels of g.
+    fn labels(&self, g: u32) -> u8
         requires { g < length self.now }
         ensures { let p = get_or self.now g nowhere in result ≡ labels_of (trace R.program p.start) p.set p.count }
     {
@@ -151,21 +159,6 @@ impl<R: Run> Bodies<R> {
             AtPoint::Passes => {}
             AtPoint::Stays => {}
         }
-    }
-
-    /// Writes the words of the stack of g, the leaf first, as many as there is room for, and says how many. At the end of
-    /// its trace there are none.
-    pub fn stack_words(&self, program: &Program, g: u32, to: &mut [u64]) -> usize
-        requires program { program.now ≡ R.program }
-        requires born { g < length self.now }
-        ensures few { result ≤ length to.new }
-        ensures words { take result to.new ≡ map word_of (take (length to.old) (stack_at R.program (get_or self.now g nowhere))) }
-    {
-        let body = &self.bodies[g as usize];
-        if body.is_over(program) {
-            return 0;
-        }
-        body.stack_words(program, to)
     }
 
     /// The stack of g, whose trace isn't ended, cut to so many frames. It takes no memory for none.

@@ -10,20 +10,20 @@ ghost use Rattle.gp_ring.specs.Records.{Covers};
 ghost use Rattle.gp_ring.specs.PlainRing.{closed};
 ghost use Rattle.gp_cpu.specs.Records.{ring_record_of};
 ghost use Rattle.gp_cpu.specs.Samples.{samples_of_journal};
-ghost use Rattle.gp_sim.specs.Choice.{begun, taken_to_end, sim_journal, sim_records};
-ghost use Rattle.gp_sim.specs.ChoiceLaw.{BeginWithHead};
-ghost use Rattle.gp_sim.specs.kept.Simulation.{TakesTurn, KeepsRing, StaysButRing};
+ghost use Rattle.gp_samples.specs.RunRing.{taken_to_end, BeginWithHead};
+ghost use Rattle.gp_sim.specs.Choice.{begun, sim_journal, sim_records};
+ghost use Rattle.gp_sim.specs.kept.Simulation.{TakesTurn, KeepsItsRing, StaysButRing};
 
 use crate::actions::{Step, next_step};
 use crate::bodies::{Bodies, newborn};
 use crate::numbers::Numbers;
-use crate::reading::{begun_ring, read_to_end};
 use crate::simulation::Simulation;
 use gp_cpu::Collector;
 use gp_events::Buckets;
 use gp_history::{History, HistoryParts};
 use gp_isa::{Memory, Program};
 use gp_machine::{Machine, Run, Settings};
+use gp_samples::{begun_ring, read_to_end};
 use gp_stack::Profiles;
 use std::alloc::Global;
 
@@ -75,7 +75,7 @@ impl<R: Run> Simulation<R> {
     ) -> Result<bool, Memory>
         requires program { program.now ≡ R.program }
         requires settings { settings.now ≡ R.settings }
-        requires ring { KeepsRing R.program R.settings self.old }
+        requires ring { KeepsItsRing R.program R.settings self.old }
         requires room { self.old.taken + 1 < 2 ^ 64 }
         ensures turn { IfOk result (λ made. TakesTurn (code_of R.program) R.settings made self.old self.new) }
         ensures err { OnErr result (StaysButRing self.old self.new) }
@@ -100,7 +100,7 @@ impl<R: Run> Simulation<R> {
 
     // What is left of a run at its end, after so many turns. Its ring is closed and read to its end.
     fn end(self, alloc: Global, turns: u64) -> Result<Simulated<R>, Memory>
-        requires ring { KeepsRing R.program R.settings self }
+        requires ring { KeepsItsRing R.program R.settings self }
         requires few { turns < 2 ^ 63 }
         ensures machine { IfOk result (λ s. s.machine ≡ self.journal) }
         ensures records { IfOk result (λ s. s.records ≡ records_of (code_of R.program) R.settings self.journal) }

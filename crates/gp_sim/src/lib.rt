@@ -9,10 +9,8 @@
 //! option's seed, on stream 1. Where no worker and no profiler can act the run is complete: the ring is closed and read to
 //! its end.
 //!
-//! **Samples.** The rate record is offered to the ring as the run begins, and with each Tick the sample of its goroutine in
-//! the state before: the time, header 1, the stack cut to 64 frames, and the number of the label set. The ring has the
-//! option's words, but no fewer than twice those of the longest sample that the program can have, and the option's tags, both
-//! rounded up to powers of two.
+//! **Samples** go through the ring of `gp_samples`: the rate record is offered to it as the run begins, and with each Tick the
+//! sample of its goroutine in the state before.
 //!
 //! So the journal and the reader's records are functions of program and options (`specs/Choice.antt`: `sim_journal` and
 //! `sim_records`, two parts of the one run that turns give), and `simulate` gives just these, with the records of each profile
@@ -48,7 +46,6 @@ mod full_run;
 mod laws;
 mod making;
 mod numbers;
-mod reading;
 mod simulation;
 
 pub use full_run::{Simulated, simulate};

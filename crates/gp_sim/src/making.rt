@@ -13,15 +13,15 @@ ghost use Rattle.gp_stack.specs.declared.statement.Operation.TheVariants as oper
 ghost use Rattle.gp_sim.specs.Choice.{with_entry, with_read, after_act};
 ghost use Rattle.gp_sim.specs.ChoiceLaw.{MayAct};
 ghost use Rattle.gp_sim.specs.kept.Acting.{IsGivenTo};
-ghost use Rattle.gp_sim.specs.kept.Simulation.{IsQuiet, BearsNobody, KeepsRing, StaysButRing};
+ghost use Rattle.gp_sim.specs.kept.Simulation.{IsQuiet, BearsNobody, KeepsItsRing, StaysButRing};
 
 use crate::bodies::{Bodies, newborn};
 use crate::numbers::Act;
-use crate::reading::read;
 use crate::simulation::Simulation;
 use gp_history::History;
-use gp_isa::{Memory, Program, limits};
+use gp_isa::{Memory, Program};
 use gp_machine::{AtPoint, Entry, Run, Settings, SharedPoint};
+use gp_samples::{offer_sample, read};
 use gp_stack::Operation;
 use std::alloc::Global;
 
@@ -80,15 +80,12 @@ impl<R: Run> Simulation<R> {
     fn tick(&mut self, program: &Program, w: u32, g: u32)
         requires program { program.now ≡ R.program }
         requires may { May (code_of R.program) R.settings (state_of R.program R.settings self.old.journal) (entry.Tick w g) }
-        requires ring { KeepsRing R.program R.settings self.old }
+        requires ring { KeepsItsRing R.program R.settings self.old }
         ensures { self.new ≡ with_entry (code_of R.program) R.settings self.old (entry.Tick w g) }
     {
-        let time = limits::INSTRUCTION_TIME * self.history.machine().clock();
-        let tag = self.bodies.labels(g) as u64;
-        let mut words = [0; limits::CPU_FRAMES as usize];
-        let frames = self.bodies.stack_words(program, g, &mut words);
+        let clock = self.history.machine().clock();
+        offer_sample(&mut self.ring, program, self.bodies.body(g), clock);
         self.history.enter(Entry::Tick { w, g });
-        self.ring.write(tag, time, &[1], &words[..frames]);
     }
 
     // g passes n local points on w.
@@ -199,7 +196,7 @@ impl<R: Run> Simulation<R> {
         requires settings { settings.now ≡ R.settings }
         requires may { May (code_of R.program) R.settings (state_of R.program R.settings self.old.journal) made }
         requires point { IsGiven (code_of R.program) (state_of R.program R.settings self.old.journal) made point }
-        requires ring { KeepsRing R.program R.settings self.old }
+        requires ring { KeepsItsRing R.program R.settings self.old }
         ensures ok { OnOk result (self.new ≡ with_entry (code_of R.program) R.settings self.old made) }
         ensures err { OnErr result (self.new ≡ self.old) }
     {
@@ -222,7 +219,7 @@ impl<R: Run> Simulation<R> {
 
     // The reader reads once.
     fn read(&mut self, alloc: Global) -> Result<(), Memory>
-        requires { KeepsRing R.program R.settings self.old }
+        requires { KeepsItsRing R.program R.settings self.old }
         ensures ok { OnOk result (self.new ≡ with_read self.old) }
         ensures err { OnErr result (StaysButRing self.old self.new) }
     {
@@ -243,7 +240,7 @@ impl<R: Run> Simulation<R> {
         requires settings { settings.now ≡ R.settings }
         requires may { MayAct (code_of R.program) R.settings (state_of R.program R.settings self.old.journal) act }
         requires point { IsGivenTo (code_of R.program) (state_of R.program R.settings self.old.journal) act point }
-        requires ring { KeepsRing R.program R.settings self.old }
+        requires ring { KeepsItsRing R.program R.settings self.old }
         ensures ok { OnOk result (self.new ≡ after_act (code_of R.program) R.settings self.old act) }
         ensures err { OnErr result (StaysButRing self.old self.new) }
     {

@@ -1,6 +1,5 @@
 -- What a simulation has so far.
-use Rattle.std.specs.Prelude.{◌≡◌, ◌≤◌, ℕ, Bool, false, List, Option, Some, None, is_some}
-use Rattle.std.specs.List.{AllByRecursion}
+use Rattle.std.specs.Prelude.{◌≡◌, ◌≤◌, ℕ, Bool, List, Option, Some, None, is_some}
 use Rattle.gp_isa.specs.declared.parts.Parts.{Parts}
 use Rattle.gp_stack.specs.Body.{Progress}
 use Rattle.gp_stack.specs.declared.statement.Operation.TheVariants as operation
@@ -9,14 +8,12 @@ use Rattle.gp_journal.specs.declared.entry.Entry.{Entry}
 use Rattle.gp_journal.specs.declared.entry.Entry.TheVariants.{Start, Park, Refuse}
 use Rattle.gp_journal.specs.declared.settings.Settings.{Settings}
 use Rattle.gp_journal.specs.Settings.{AreInRange}
-use Rattle.gp_journal.specs.State.{Code, State, code_of, births}
+use Rattle.gp_journal.specs.State.{Code, State, births}
 use Rattle.gp_journal.specs.Run.{IsLegal, last}
 use Rattle.gp_journal.specs.Bodies.{AreBodiesOf}
 use Rattle.gp_sim.specs.declared.numbers.Turn.{Turn}
-use Rattle.gp_ring.specs.Follows.{Follows}
-use Rattle.gp_cpu.specs.Samples.{samples_of_journal}
-use Rattle.gp_cpu.specs.BatchLaw.{IsWhole}
-use Rattle.gp_sim.specs.Choice.{SoFar, next_turn, after_turn, ring_len, ring_tags}
+use Rattle.gp_samples.specs.RunRing.{KeepsRing}
+use Rattle.gp_sim.specs.Choice.{SoFar, next_turn, after_turn}
 
 -- what there is after a turn, where there was one
 abbrev pub after_turn_if : Code → Settings → SoFar → Option Turn → SoFar
@@ -34,15 +31,9 @@ pub record StaysButRing (before now : SoFar) : Type 0 where
   pub taken : now.taken ≡ before.taken
   pub records : now.records ≡ before.records
 
--- The ring of a run so far is open, of the run's size, and follows the samples of the journal and the records taken; what is
--- unread are whole records.
-pub record KeepsRing (program : Parts) (settings : Settings) (run : SoFar) : Type 0 where
-  pub header : run.ring.hdrsize ≡ 1
-  pub words : run.ring.len ≡ ring_len program settings
-  pub tags : run.ring.tags ≡ ring_tags settings
-  pub is_open : run.ring.ended ≡ false
-  pub follows : Follows (samples_of_journal (code_of program) settings run.journal) run.records run.ring
-  pub whole : AllByRecursion IsWhole run.ring.unread
+-- the ring of a run so far is kept
+abbrev pub KeepsItsRing : Parts → Settings → SoFar → Type 0
+KeepsItsRing program settings run = KeepsRing program settings run.journal run.records run.ring
 
 -- The bodies stand where their goroutines stand.
 pub record IsSimulation (code : Code) (settings : Settings) (journal : List Entry) (bodies : List Progress) : Type 0 where

@@ -11,11 +11,11 @@ use Rattle.gp_ring.specs.Records.{Covers}
 use Rattle.gp_ring.specs.PlainRing.{closed}
 use Rattle.gp_cpu.specs.Records.{ring_record_of}
 use Rattle.gp_cpu.specs.Samples.{samples_of_journal}
-use Rattle.gp_sim.specs.Choice.{SoFar, taken_to_end}
-use Rattle.gp_sim.specs.ChoiceLaw.{BeginWithHead}
-use Rattle.gp_sim.specs.kept.Simulation.{KeepsRing}
+use Rattle.gp_samples.specs.RunRing.{taken_to_end, BeginWithHead}
+use Rattle.gp_sim.specs.Choice.{SoFar}
+use Rattle.gp_sim.specs.kept.Simulation.{KeepsItsRing}
 use Rattle.gp_sim.specs.kept.Turns.{IsPartOfSim}
-use Rattle.gp_sim.proofs.Offers.{entries_few}
+use Rattle.gp_samples.proofs.Offers.{entries_few}
 use Rattle.gp_sim.proofs.Turns.{begins, turns_few, took_turn, took_none, read_whole, turns_at_end, entries_at_end}
 use Rattle.gp_sim.proofs.full_run.simulate.Goals as goal
 
@@ -70,7 +70,7 @@ end-requires-clause-ring g c =
     let range = subst AreInRange c.requires.settings c.requires.range in
     let part = c.loop-simulation.invariant.part in
     let ended = took_none g.R.Run.program g.R.Run.settings c.loop-simulation.turns c.loop-simulation.simulation c.turn.new.self c.in_ok-turn.field-0 range part c.in_ok-turn.ensures.turn c.if-branch.false in
-    subst (KeepsRing g.R.Run.program g.R.Run.settings) (sym ended.same) part.ring
+    subst (KeepsItsRing g.R.Run.program g.R.Run.settings) (sym ended.same) part.ring
 
 pub end-requires-clause-few : goal.end-requires-clause-few
 end-requires-clause-few g c =

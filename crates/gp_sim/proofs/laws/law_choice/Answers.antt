@@ -2,7 +2,6 @@ use Rattle.std.proofs.Common.{refl}
 use Rattle.gp_journal.specs.Run.{last}
 use Rattle.gp_sim.proofs.Complete.{none_enabled}
 use Rattle.gp_sim.proofs.Enabled.{actions_may, chosen_may}
-use Rattle.gp_sim.proofs.Rounded.{rounded_is_next}
 use Rattle.gp_sim.proofs.Turns.{sim_is_finished, sim_is_covered, sim_begins_with_head}
 use Rattle.gp_sim.proofs.laws.law_choice.Goals as goal
 
@@ -26,6 +25,3 @@ returns-clause-covered c = sim_is_covered
 
 pub returns-clause-head : goal.returns-clause-head
 returns-clause-head c = sim_begins_with_head
-
-pub returns-clause-sizes : goal.returns-clause-sizes
-returns-clause-sizes c = rounded_is_next

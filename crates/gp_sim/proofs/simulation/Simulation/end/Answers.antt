@@ -1,6 +1,7 @@
 use Rattle.std.proofs.Common.{◌++◌, length, ap, ◌∙◌, arith}
 use Rattle.gp_ring.specs.PlainRing.{closed}
-use Rattle.gp_sim.specs.Choice.{SoFar, taken_to_end}
+use Rattle.gp_samples.specs.RunRing.{taken_to_end}
+use Rattle.gp_sim.specs.Choice.{SoFar}
 use Rattle.gp_sim.proofs.simulation.Simulation.end.Goals as goal
 
 pub overflow_add-result : goal.overflow_add-result

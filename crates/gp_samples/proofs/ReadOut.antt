@@ -20,8 +20,7 @@ use Rattle.gp_cpu.specs.Batch.{AreRecords, records_in}
 use Rattle.gp_cpu.specs.BatchLaw.{IsWhole, words_of_pieces, tags_of_pieces}
 use Rattle.gp_cpu.proofs.Pieces.{pieces_are_batches}
 use Rattle.gp_cpu.proofs.Staying.{pieces_stay_whole}
-use Rattle.gp_sim.specs.Choice.{is_end, taken_to_end}
-use Rattle.gp_sim.specs.kept.Reading.{IsReadable}
+use Rattle.gp_samples.specs.RunRing.{IsReadable, is_end, taken_to_end}
 
 no_pieces : (ps : List Piece) → length ps ≡ 0 → ps ≡ []
 no_pieces [] e = refl
@@ -282,13 +281,13 @@ not_true true e = absurd (true≢false (sym e))
 not_true false e = refl
 
 -- One that doesn't find the end takes something, and what is left comes behind that.
-pub record GoesOn (ring : PlainRing) (left : ℕ) : Type 0 where
+pub record ReadsOn (ring : PlainRing) (left : ℕ) : Type 0 where
   pub took : Takes ring (acted (looked ring)) (records_taken (looked ring))
   pub rest : taken_to_end (left + 1) ring ≡ records_taken (looked ring) ++ taken_to_end left (acted (looked ring))
 
-pub goes_on : (ring : PlainRing) (left : ℕ) → IsReadable ring → ring.ended ≡ true → not (is_end (acted (looked ring)).hand) ≡ true → GoesOn ring left
+pub reads_on : (ring : PlainRing) (left : ℕ) → IsReadable ring → ring.ended ≡ true → not (is_end (acted (looked ring)).hand) ≡ true → ReadsOn ring left
 unfolding taken_to_end
-goes_on ring left readable ended on = record {
+reads_on ring left readable ended on = record {
   took = takes ring readable (not_not (nat_lt ring.read_tags ring.written_tags || nat_lt 0 ring.pending) (sym (end_is ring readable ended) ∙ not_true (is_end (acted (looked ring)).hand) on));
   rest =
       let more : left + 1 ≡ suc left = omega arith in

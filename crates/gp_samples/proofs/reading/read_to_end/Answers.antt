@@ -2,15 +2,14 @@ use Rattle.std.proofs.Common.{◌≡◌, ◌+◌, ◌-◌, ◌++◌, map, length
 use Rattle.std.proofs.lemmas.List.{append_assoc, length-map, length-append}
 use Rattle.gp_ring.specs.PlainRing.{PlainRing, closed, looked, acted, records_taken}
 use Rattle.gp_cpu.specs.Records.{ring_record_of}
-use Rattle.gp_sim.specs.Choice.{taken_to_end}
-use Rattle.gp_sim.specs.kept.Reading.{IsReadable}
-use Rattle.gp_sim.proofs.ReadOut.{needed, read_readable, read_ended, goes_on, last_read, few_reads}
-use Rattle.gp_sim.proofs.reading.read_to_end.Goals as goal
+use Rattle.gp_samples.specs.RunRing.{IsReadable, taken_to_end}
+use Rattle.gp_samples.proofs.ReadOut.{needed, read_readable, read_ended, reads_on, last_read, few_reads}
+use Rattle.gp_samples.proofs.reading.read_to_end.Goals as goal
 
 pub loop-reads-smaller : goal.loop-reads-smaller
 loop-reads-smaller c =
     let ring = c.loop-reads.ring in
-    let on = goes_on ring (3 - c.loop-reads.reads) c.loop-reads.invariant.readable c.loop-reads.invariant.ended (sym c.in_ok-read.ensures.more ∙ c.if-branch.true) in
+    let on = reads_on ring (3 - c.loop-reads.reads) c.loop-reads.invariant.readable c.loop-reads.invariant.ended (sym c.in_ok-read.ensures.more ∙ c.if-branch.true) in
     let next = ap needed c.read.ensures.ring in
     let fewer = on.took.fewer in
     omega arith
@@ -18,7 +17,7 @@ loop-reads-smaller c =
 pub loop-reads-preserved : goal.loop-reads-preserved
 loop-reads-preserved c =
     let ring = c.loop-reads.ring in
-    let on = goes_on ring (3 - c.loop-reads.reads) c.loop-reads.invariant.readable c.loop-reads.invariant.ended (sym c.in_ok-read.ensures.more ∙ c.if-branch.true) in
+    let on = reads_on ring (3 - c.loop-reads.reads) c.loop-reads.invariant.readable c.loop-reads.invariant.ended (sym c.in_ok-read.ensures.more ∙ c.if-branch.true) in
     let next = ap needed c.read.ensures.ring in
     let fewer = on.took.fewer in
     let some = on.took.some in

@@ -6,8 +6,8 @@ use Rattle.std.proofs.Math.Nat.{pow-succ'}
 use Rattle.std.proofs.Math.Pow.{pow_mono}
 use Rattle.std.proofs.lemmas.Nat.{pow_pos}
 use Rattle.std.proofs.lemmas.Bool.{cases_lt, leb-true, leb-false}
-use Rattle.gp_sim.specs.Choice.{rounded_from, rounded}
-use Rattle.gp_sim.specs.ChoiceLaw.{RoundedIsNext}
+use Rattle.gp_samples.specs.RunRing.{rounded_from, rounded}
+use Rattle.gp_samples.specs.RunRingLaw.{RoundedIsNext}
 
 twice_halved : (a : ℕ) → (2 * a) / 2 ≡ a
 twice_halved a = omega arith

@@ -3,8 +3,8 @@ use Rattle.std.proofs.lemmas.List.{map-append}
 use Rattle.gp_ring.specs.declared.taken.Taken.TheVariants.{Batch}
 use Rattle.gp_cpu.specs.Records.{ring_record_of}
 use Rattle.gp_cpu.specs.Batch.{records_in}
-use Rattle.gp_sim.proofs.ReadOut.{batch_adds}
-use Rattle.gp_sim.proofs.reading.read.Goals as goal
+use Rattle.gp_samples.proofs.ReadOut.{batch_adds}
+use Rattle.gp_samples.proofs.reading.read.Goals as goal
 
 pub add-requires : goal.add-requires
 add-requires c = (batch_adds c.args.ring.now c.requires (Batch c.in-Batch.words c.in-Batch.tags) c.in-Batch.ensures.answer).0

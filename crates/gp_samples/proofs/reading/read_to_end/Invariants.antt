@@ -2,10 +2,9 @@
 use Rattle.std.proofs.Common.{◌≡◌, ◌≤◌, ◌+◌, ◌-◌, ◌++◌, length, map, true}
 use Rattle.gp_ring.specs.PlainRing.{closed}
 use Rattle.gp_cpu.specs.Records.{ring_record_of}
-use Rattle.gp_sim.specs.Choice.{taken_to_end}
-use Rattle.gp_sim.specs.kept.Reading.{IsReadable}
-use Rattle.gp_sim.proofs.ReadOut.{needed}
-use Rattle.gp_sim.proofs.reading.read_to_end.Given as goal
+use Rattle.gp_samples.specs.RunRing.{IsReadable, taken_to_end}
+use Rattle.gp_samples.proofs.ReadOut.{needed}
+use Rattle.gp_samples.proofs.reading.read_to_end.Given as goal
 
 abbrev pub invariant-loop-reads : goal.invariant-loop-reads
 invariant-loop-reads l = record {

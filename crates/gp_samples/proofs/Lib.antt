@@ -1,0 +1,5 @@
+pub mod Rounded
+pub mod Frames
+pub mod ReadOut
+pub mod Offers
+pub mod Keeping

@@ -1,0 +1,2 @@
+pub mod RunRing
+pub mod RunRingLaw
