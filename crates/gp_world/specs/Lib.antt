@@ -1,0 +1,4 @@
+pub mod Scene
+pub mod Rows
+pub mod Calls
+pub mod kept

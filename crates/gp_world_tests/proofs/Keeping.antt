@@ -1,0 +1,30 @@
+-- The world's book stays over each call, and whose share it is.
+use Rattle.std.proofs.Common.{◌≡◌, ℕ, List, [], ◌∷◌, refl, ap, ◌∙◌}
+use Rattle.std.specs.Prelude.{Option, Some, None, map}
+use Rattle.std.specs.List.{AllByRecursion}
+use Rattle.atomic_table.specs.Seated.{TableId}
+use Rattle.gp_journal.specs.declared.entry.Entry.{Entry}
+use Rattle.gp_tally.specs.Rows.{Part}
+use Rattle.gp_tally.specs.declared.row.Row.{Row}
+use Rattle.gp_world.specs.Rows.{share_of}
+use Rattle.gp_world.specs.Scene.{Scene}
+use Rattle.gp_profiler.specs.Calls.{entered, noted}
+use Rattle.gp_world_tests.specs.Playing.{IsOf, Keeps}
+
+-- where both are told
+pub keeps : (old new told : Scene) (was who note : Part) → new ≡ told → who ≡ note → told.book ≡ old.book → note.book ≡ was.book → Keeps old new was who
+keeps old new told was who note scene share same its = record {
+  same_book = ap (λ (s : Scene). s.book) scene ∙ same;
+  its_book = ap (λ (p : Part). p.book) share ∙ its;
+}
+
+-- by one entry of the profiler's calls, or none
+pub keeps_entered : (old new : Scene) (was who : Part) (made : Option Entry) (row : Row) → new ≡ entered old made → who ≡ noted was made row → Keeps old new was who
+keeps_entered old new was who None row scene share = keeps old new old was who was scene share refl refl
+keeps_entered old new was who (Some entry) row scene share =
+    keeps old new (entered old (Some entry)) was who (noted was (Some entry) row) scene share refl refl
+
+-- Shares that are issued are of their book.
+pub issued : (book : TableId) (numbers : List ℕ) → AllByRecursion (IsOf book) (map (share_of book) numbers)
+issued book [] = tt
+issued book (n ∷ numbers) = (refl, issued book numbers)
