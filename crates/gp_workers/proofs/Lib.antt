@@ -1,0 +1,9 @@
+mod Keeping
+mod Following
+mod ProfilerKeeps
+mod RingKeeps
+mod Counts
+mod InOrder
+mod Beginnings
+mod Turns
+mod Idling

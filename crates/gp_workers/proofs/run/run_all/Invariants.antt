@@ -1,0 +1,5 @@
+-- The book whose shares the actors have is that of the world as it begins.
+use Rattle.gp_workers.proofs.run.run_all.Given as goal
+
+abbrev pub ghosts-run_named : goal.ghosts-run_named
+ghosts-run_named g a = record { book = a.made.world.book }

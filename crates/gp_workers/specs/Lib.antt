@@ -1,0 +1,4 @@
+pub mod Named
+pub mod Actors
+pub mod Beginning
+pub mod kept
