@@ -2,7 +2,8 @@
 #![tactic(auto)]
 
 use gp_io::{FileSource, FolderStore, StandardOutput};
-use gp_top::{plain_top, status};
+use gp_top::{status, top};
+use gp_workers::NoGate;
 use std::env::Env;
 use std::io::ErrorKind;
 use std::process::ExitCode;
@@ -30,12 +31,14 @@ fn main(rt: HostRuntime) -> ExitCode {
     let mut source = FileSource::new(&rt, path);
     let mut store = FolderStore::new(&rt, rt.alloc());
     let mut out = StandardOutput::new(&rt);
-    let outcome = plain_top(
+    let outcome = top(
+        &rt,
         rt.alloc(),
         words.as_slice(),
         &mut source,
         &mut store,
         &mut out,
+        &NoGate,
     );
     ExitCode::from(outcome.status)
 }

@@ -9,9 +9,9 @@ use Rattle.gp_journal.specs.declared.entry.Ended.TheVariants as ended
 use Rattle.gp_journal.specs.declared.settings.Settings.{Settings}
 use Rattle.gp_text.specs.Reading.{program_of, Gives}
 use Rattle.gp_gen.specs.Generated.{generated}
-use Rattle.gp_words.specs.declared.jobs.Job.TheVariants.{Sim, Gen, Dump}
-use Rattle.gp_words.specs.Job.{job_of}
-use Rattle.gp_words.specs.Read.{Names}
+use Rattle.gp_words.specs.declared.jobs.Job.{Job}
+use Rattle.gp_words.specs.declared.jobs.Job.TheVariants.{Run, Sim, Gen, Dump}
+use Rattle.gp_words.specs.Read.{Read as Reading, Names}
 use Rattle.gp_io.specs.Outside.{Rose}
 use Rattle.gp_build.specs.Meant.{meaning_of}
 use Rattle.gp_report.specs.Dump.{dump_text}
@@ -19,13 +19,13 @@ use Rattle.gp_report.specs.declared.report.Report.{Report}
 use Rattle.gp_text.specs.Text.{text_of}
 use Rattle.gp_top.specs.Files.{Output, TextFile}
 use Rattle.gp_top.specs.Putting.{Told, ArePut, Sunk}
-use Rattle.gp_top.specs.Report.{refusals, IsReport}
+use Rattle.gp_top.specs.Report.{refusals, IsReport, IsChosen, Order, ByNumbers, ByThreads, IsInOrder}
 use Rattle.gp_top.specs.Status.{status_of_end, status_of, status_of_run}
 use Rattle.gp_top.specs.Task.{Task, read_task, generated_task, generated_file}
-use Rattle.gp_top.specs.Asked.{IsAccepted, IsAsked, OfFile, OfNumbers}
+use Rattle.gp_top.specs.Asked.{file_job, IsAccepted, IsAsked, OfFile, OfNumbers}
 use Rattle.gp_top.specs.Top.{IsTold, ComesTo, AllPut, PutFails, OutOfMemory, IsRun, IsRefusal, PutsNoMore, PutsNothing, PutsProgram, EndsWithoutReport, Refusal, Dumped, ProgramFails, NoMemory}
 use Rattle.gp_top.specs.kept.Steps.{CameTo, IsDump, IsAfterRun}
-use Rattle.gp_top.proofs.Asking.{one_job}
+use Rattle.gp_top.proofs.Asking.{one_job, one_kind, file_not_numbers, file_not_text, text_not_numbers}
 use Rattle.gp_top.proofs.Putting.{all_first, both_put, then_fails, then_first, count_rose}
 
 -- ---- statuses
@@ -63,11 +63,19 @@ no_refusal status after (inl one) = absurd (after.0 one)
 no_refusal status after (inr (inl two)) = absurd (after.1.0 two)
 no_refusal status after (inr (inr three)) = absurd (after.1.1 three)
 
--- the status of a report is that of its run
-status_is : (program : Parts) (settings : Settings) (report : Report) → IsReport program settings report → status_of report ≡ status_of_run program settings
-status_is program settings report is =
+-- the status of a report is that of its run, where numbers choose
+status_is : (program : Parts) (settings : Settings) (report : Report) → IsReport program settings report → IsChosen program settings report → status_of report ≡ status_of_run program settings
+status_is program settings report is chosen =
     ap (λ refused. status_of_end refused report.ended) is.refused_are
-    ∙ (ap (status_of_end (refusals report.journal)) is.ended_is ∙ ap (λ journal. status_of_end (refusals journal) (machine.ended (state_of program settings journal))) is.chosen)
+    ∙ (ap (status_of_end (refusals report.journal)) is.ended_is
+    ∙ ap (λ journal. status_of_end (refusals journal) (machine.ended (state_of program settings journal))) chosen.journal_is)
+
+-- so it is for a task of that order
+task_status : (task : Task) (program : Parts) (settings : Settings) (report : Report) → task.program ≡ program → task.settings ≡ settings → task.order ≡ ByNumbers
+    → IsReport task.program task.settings report → IsInOrder task.order task.program task.settings report → status_of report ≡ status_of_run program settings
+task_status task program settings report one two order is chosen =
+    status_is task.program task.settings report is (subst (λ o. IsInOrder o task.program task.settings report) order chosen)
+    ∙ (ap (λ p. status_of_run p task.settings) one ∙ ap (status_of_run program) two)
 
 -- ---- texts
 
@@ -147,58 +155,61 @@ comes_behind front outputs summary ending before mid after sink_before sink_afte
 
 -- the run of a generated program, behind the put of its text
 module _ (n q : ℕ) (settings : Settings) (before mid after : Told) (sink_before sink_after : Sunk) (status : ℕ) where
-  behind_text : (report : Report) → ArePut (generated_file n q ∷ []) before mid → CameTo (read_task (codes "gen.gp") settings (generated n q)) mid after sink_before sink_after status report
+  behind_text : (report : Report) → ArePut (generated_file n q ∷ []) before mid → CameTo (read_task ByNumbers (codes "gen.gp") settings (generated n q)) mid after sink_before sink_after status report
       → CameTo (generated_task n q settings) before after sink_before sink_after status report
   behind_text report put came = record {
     reported = came.reported;
+    in_order = came.in_order;
     comes_to = comes_behind (generated_file n q ∷ []) _ _ _ before mid after sink_before sink_after status put came.comes_to;
   }
 
   all_behind_text : (report : Option Report) → ArePut (generated_file n q ∷ []) before mid
-      → IfSome report (λ r. CameTo (read_task (codes "gen.gp") settings (generated n q)) mid after sink_before sink_after status r)
+      → IfSome report (λ r. CameTo (read_task ByNumbers (codes "gen.gp") settings (generated n q)) mid after sink_before sink_after status r)
       → IfSome report (λ r. CameTo (generated_task n q settings) before after sink_before sink_after status r)
   all_behind_text None put came = tt
   all_behind_text (Some report) put came = behind_text report put came
 
   pub generated_came : (program : Parts) (text : List ℕ) (report : Option Report) → program ≡ generated n q → text ≡ text_of (generated n q)
       → ArePut (TextFile (codes "gen.gp") text ∷ []) before mid
-      → IfSome report (λ r. CameTo (read_task (codes "gen.gp") settings program) mid after sink_before sink_after status r)
+      → IfSome report (λ r. CameTo (read_task ByNumbers (codes "gen.gp") settings program) mid after sink_before sink_after status r)
       → IfSome report (λ r. CameTo (generated_task n q settings) before after sink_before sink_after status r)
   generated_came program text report one two put came =
       all_behind_text report (subst (λ (t : List ℕ). ArePut (TextFile (codes "gen.gp") t ∷ []) before mid) two put)
-      (subst (λ (p : Parts). IfSome report (λ r. CameTo (read_task (codes "gen.gp") settings p) mid after sink_before sink_after status r)) one came)
+      (subst (λ (p : Parts). IfSome report (λ r. CameTo (read_task ByNumbers (codes "gen.gp") settings p) mid after sink_before sink_after status r)) one came)
 
 -- ---- runs
 
-module _ (words : List (List ℕ)) (held : Option (List ℕ)) (before after : Told) (sink_before sink_after : Sunk) (status : ℕ) where
+module _ (asked : Reading Job) (held : Option (List ℕ)) (before after : Told) (sink_before sink_after : Sunk) (status : ℕ) where
   abbrev Runs : Report → Type 0
-  Runs report = IsRun words held before after sink_before sink_after status report
+  Runs report = IsRun asked held before after sink_before sink_after status report
 
   -- a run of a program that was read, and one of a generated program
-  file_run : (file : List ℕ) (settings : Settings) (program : Parts) (report : Report) → job_of words ≡ Names (Sim file settings) → IsAccepted held program
-      → CameTo (read_task file settings program) before after sink_before sink_after status report → Runs report
-  file_run file settings program report job accepted came = record {
-    task = read_task file settings program;
-    asked = OfFile file settings program job accepted refl;
+  file_run : (order : Order) (file : List ℕ) (settings : Settings) (program : Parts) (report : Report) → asked ≡ Names (file_job order file settings) → IsAccepted held program
+      → CameTo (read_task order file settings program) before after sink_before sink_after status report → Runs report
+  file_run order file settings program report job accepted came = record {
+    task = read_task order file settings program;
+    is_asked = OfFile order file settings program job accepted refl;
     reported = came.reported;
+    in_order = came.in_order;
     comes_to = came.comes_to;
   }
 
-  numbers_run : (n q : ℕ) (settings : Settings) (report : Report) → job_of words ≡ Names (Gen n q settings)
+  numbers_run : (n q : ℕ) (settings : Settings) (report : Report) → asked ≡ Names (Gen n q settings)
       → CameTo (generated_task n q settings) before after sink_before sink_after status report → Runs report
   numbers_run n q settings report job came = record {
     task = generated_task n q settings;
-    asked = OfNumbers n q settings job refl;
+    is_asked = OfNumbers n q settings job refl;
     reported = came.reported;
+    in_order = came.in_order;
     comes_to = came.comes_to;
   }
 
-  pub file_runs : (file : List ℕ) (settings : Settings) (report : Option Report) → job_of words ≡ Names (Sim file settings)
-      → IfSome report (λ r. (program : Parts) × IsAccepted held program × CameTo (read_task file settings program) before after sink_before sink_after status r) → IfSome report Runs
-  file_runs file settings None job came = tt
-  file_runs file settings (Some report) job came = file_run file settings came.0 report job came.1 came.2
+  pub file_runs : (order : Order) (file : List ℕ) (settings : Settings) (report : Option Report) → asked ≡ Names (file_job order file settings)
+      → IfSome report (λ r. (program : Parts) × IsAccepted held program × CameTo (read_task order file settings program) before after sink_before sink_after status r) → IfSome report Runs
+  file_runs order file settings None job came = tt
+  file_runs order file settings (Some report) job came = file_run order file settings came.0 report job came.1 came.2
 
-  pub numbers_runs : (n q : ℕ) (settings : Settings) (report : Option Report) → job_of words ≡ Names (Gen n q settings)
+  pub numbers_runs : (n q : ℕ) (settings : Settings) (report : Option Report) → asked ≡ Names (Gen n q settings)
       → IfSome report (λ r. CameTo (generated_task n q settings) before after sink_before sink_after status r) → IfSome report Runs
   numbers_runs n q settings None job came = tt
   numbers_runs n q settings (Some report) job came = numbers_run n q settings report job came
@@ -226,36 +237,37 @@ module _ (words : List (List ℕ)) (held : Option (List ℕ)) (before after : To
         let e : Gives made ≡ Gives program = sym given.gives ∙ (ap program_of (given.all ∙ one) ∙ gives) in cc
 
   -- so words and file tell the status
-  asked_status : (report : Report) (task : Task) (file bytes : List ℕ) (settings : Settings) (program : Parts) → IsAsked words held task → IsReport task.program task.settings report
-      → job_of words ≡ Names (Sim file settings) → held ≡ Some bytes → program_of bytes ≡ Gives program → status_of report ≡ status_of_run program settings
-  asked_status report task file bytes settings program (OfFile name mine made job accepted is) reported asked told gives =
-      let same : Sim name mine ≡ Sim file settings = one_job words (Sim name mine) (Sim file settings) job asked in
+  asked_status : (report : Report) (task : Task) (file bytes : List ℕ) (settings : Settings) (program : Parts) → IsAsked asked held task → IsReport task.program task.settings report
+      → IsInOrder task.order task.program task.settings report → asked ≡ Names (Sim file settings) → held ≡ Some bytes → program_of bytes ≡ Gives program → status_of report ≡ status_of_run program settings
+  asked_status report task file bytes settings program (OfFile ByNumbers name mine made job accepted is) reported in_order sim told gives =
+      let same : Sim name mine ≡ Sim file settings = one_job asked (Sim name mine) (Sim file settings) job sim in
       let one : mine ≡ settings = cc in
       let two = program_same bytes made program accepted told gives in
-      let e = status_is task.program task.settings report reported in
-      e ∙ ap (λ (t : Task). status_of_run t.program t.settings) is ∙ ap (λ p. status_of_run p mine) two ∙ ap (status_of_run program) one
-  asked_status report task file bytes settings program (OfNumbers n q mine job is) reported asked told gives =
-      let same : Gen n q mine ≡ Sim file settings = one_job words (Gen n q mine) (Sim file settings) job asked in absurd cc
+      task_status task program settings report (ap (λ (t : Task). t.program) is ∙ two) (ap (λ (t : Task). t.settings) is ∙ one) (ap (λ (t : Task). t.order) is) reported in_order
+  asked_status report task file bytes settings program (OfFile ByThreads name mine made job accepted is) reported in_order sim told gives =
+      absurd (omega (arith, one_kind asked (Run name mine) (Sim file settings) job sim))
+  asked_status report task file bytes settings program (OfNumbers n q mine job is) reported in_order sim told gives =
+      absurd (omega (arith, one_kind asked (Gen n q mine) (Sim file settings) job sim))
 
-  numbers_status : (report : Report) (task : Task) (n q : ℕ) (settings : Settings) → IsAsked words held task → IsReport task.program task.settings report
-      → job_of words ≡ Names (Gen n q settings) → status_of report ≡ status_of_run (generated n q) settings
-  numbers_status report task n q settings (OfFile name mine made job accepted is) reported asked =
-      let same : Sim name mine ≡ Gen n q settings = one_job words (Sim name mine) (Gen n q settings) job asked in absurd cc
-  numbers_status report task n q settings (OfNumbers m p mine job is) reported asked =
-      let same : Gen m p mine ≡ Gen n q settings = one_job words (Gen m p mine) (Gen n q settings) job asked in
-      let e = status_is task.program task.settings report reported in
-      e ∙ ap (λ (t : Task). status_of_run t.program t.settings) is ∙ cc
+  numbers_status : (report : Report) (task : Task) (n q : ℕ) (settings : Settings) → IsAsked asked held task → IsReport task.program task.settings report
+      → IsInOrder task.order task.program task.settings report → asked ≡ Names (Gen n q settings) → status_of report ≡ status_of_run (generated n q) settings
+  numbers_status report task n q settings (OfFile order name mine made job accepted is) reported in_order gen = absurd (file_not_numbers asked order name mine settings n q job gen)
+  numbers_status report task n q settings (OfNumbers m p mine job is) reported in_order gen =
+      let same : Gen m p mine ≡ Gen n q settings = one_job asked (Gen m p mine) (Gen n q settings) job gen in
+      let one : generated m p ≡ generated n q = cc in
+      let two : mine ≡ settings = cc in
+      task_status task (generated n q) settings report (ap (λ (t : Task). t.program) is ∙ one) (ap (λ (t : Task). t.settings) is ∙ two) (ap (λ (t : Task). t.order) is) reported in_order
 
-  run_of_no_dump : (report : Report) (file : List ℕ) → Runs report → job_of words ≡ Names (Dump file) → ⊥
-  run_of_no_dump report file run asked = go run.asked where
-    go : IsAsked words held run.task → ⊥
-    go (OfFile name mine made job accepted is) = let same : Sim name mine ≡ Dump file = one_job words (Sim name mine) (Dump file) job asked in absurd cc
-    go (OfNumbers n q mine job is) = let same : Gen n q mine ≡ Dump file = one_job words (Gen n q mine) (Dump file) job asked in absurd cc
+  run_of_no_dump : (report : Report) (file : List ℕ) → Runs report → asked ≡ Names (Dump file) → ⊥
+  run_of_no_dump report file run dump = go run.is_asked where
+    go : IsAsked asked held run.task → ⊥
+    go (OfFile order name mine made job accepted is) = file_not_text asked order name file mine job dump
+    go (OfNumbers n q mine job is) = text_not_numbers asked file mine n q dump job
 
   -- ---- without a report
 
   abbrev Bare : Type 0
-  Bare = EndsWithoutReport words held before after sink_before sink_after status
+  Bare = EndsWithoutReport asked held before after sink_before sink_after status
 
   bare_fault : IsAfterRun status → Bare → status ≡ 4 → Rose before.2 after.2 ⊎ Rose sink_before.1 sink_after.1
   bare_fault behind (Refusal refusal same) four = no_refusal status behind refusal
@@ -263,7 +275,7 @@ module _ (words : List (List ℕ)) (held : Option (List ℕ)) (before after : To
   bare_fault behind (ProgramFails n q ask is fails same) four = inl (count_rose _ before after fails)
   bare_fault behind (NoMemory nine put same) four = absurd (omega arith)
 
-  no_more_faults : PutsNoMore words before after → after.2 ≡ before.2
+  no_more_faults : PutsNoMore asked before after → after.2 ≡ before.2
   no_more_faults (PutsNothing same) = ap (λ (t : Told). t.2) same
   no_more_faults (PutsProgram n q ask put) = put.well
 
@@ -289,28 +301,24 @@ module _ (words : List (List ℕ)) (held : Option (List ℕ)) (before after : To
   bare_early behind (ProgramFails n q ask four fails same) least most = omega arith
   bare_early behind (NoMemory nine put same) least most = omega arith
 
-  -- with right words for a run it's want of memory
-  bare_file : IsAfterRun status → Bare → (file : List ℕ) (settings : Settings) → job_of words ≡ Names (Sim file settings) → status ≡ 9
-  bare_file behind (Refusal refusal same) file settings asked = no_refusal status behind refusal
-  bare_file behind (Dumped dump same) file settings asked =
-      let e : Dump dump.file ≡ Sim file settings = one_job words (Dump dump.file) (Sim file settings) dump.job asked in absurd cc
-  bare_file behind (ProgramFails n q ask four fails same) file settings asked =
-      let e : Gen n q ask.settings ≡ Sim file settings = one_job words (Gen n q ask.settings) (Sim file settings) ask.job asked in absurd cc
-  bare_file behind (NoMemory nine put same) file settings asked = nine
+  -- with right words for a run of a file's program it's want of memory
+  bare_file : IsAfterRun status → Bare → (order : Order) (file : List ℕ) (settings : Settings) → asked ≡ Names (file_job order file settings) → status ≡ 9
+  bare_file behind (Refusal refusal same) order file settings run = no_refusal status behind refusal
+  bare_file behind (Dumped dump same) order file settings run = absurd (file_not_text asked order file dump.file settings run dump.job)
+  bare_file behind (ProgramFails n q ask four fails same) order file settings run = absurd (file_not_numbers asked order file settings ask.settings n q run ask.job)
+  bare_file behind (NoMemory nine put same) order file settings run = nine
 
-  bare_numbers : IsAfterRun status → Bare → (n q : ℕ) (settings : Settings) → job_of words ≡ Names (Gen n q settings) → (Rose before.2 after.2 → ⊥) → status ≡ 9
-  bare_numbers behind (Refusal refusal same) n q settings asked none = no_refusal status behind refusal
-  bare_numbers behind (Dumped dump same) n q settings asked none =
-      let e : Dump dump.file ≡ Gen n q settings = one_job words (Dump dump.file) (Gen n q settings) dump.job asked in absurd cc
-  bare_numbers behind (ProgramFails m p ask four fails same) n q settings asked none = absurd (none (count_rose _ before after fails))
-  bare_numbers behind (NoMemory nine put same) n q settings asked none = nine
+  bare_numbers : IsAfterRun status → Bare → (n q : ℕ) (settings : Settings) → asked ≡ Names (Gen n q settings) → (Rose before.2 after.2 → ⊥) → status ≡ 9
+  bare_numbers behind (Refusal refusal same) n q settings gen none = no_refusal status behind refusal
+  bare_numbers behind (Dumped dump same) n q settings gen none = absurd (text_not_numbers asked dump.file settings n q dump.job gen)
+  bare_numbers behind (ProgramFails m p ask four fails same) n q settings gen none = absurd (none (count_rose _ before after fails))
+  bare_numbers behind (NoMemory nine put same) n q settings gen none = nine
 
-  bare_dump : IsAfterRun status → Bare → (file : List ℕ) → job_of words ≡ Names (Dump file) → (Rose sink_before.1 sink_after.1 → ⊥) → (status ≡ 0) ⊎ (status ≡ 9)
-  bare_dump behind (Refusal refusal same) file asked none = no_refusal status behind refusal
-  bare_dump behind (Dumped dump same) file asked none = inl (told_whole _ 0 sink_before sink_after status dump.told none)
-  bare_dump behind (ProgramFails n q ask four fails same) file asked none =
-      let e : Gen n q ask.settings ≡ Dump file = one_job words (Gen n q ask.settings) (Dump file) ask.job asked in absurd cc
-  bare_dump behind (NoMemory nine put same) file asked none = inr nine
+  bare_dump : IsAfterRun status → Bare → (file : List ℕ) → asked ≡ Names (Dump file) → (Rose sink_before.1 sink_after.1 → ⊥) → (status ≡ 0) ⊎ (status ≡ 9)
+  bare_dump behind (Refusal refusal same) file text none = no_refusal status behind refusal
+  bare_dump behind (Dumped dump same) file text none = inl (told_whole _ 0 sink_before sink_after status dump.told none)
+  bare_dump behind (ProgramFails n q ask four fails same) file text none = absurd (text_not_numbers asked file ask.settings n q text ask.job)
+  bare_dump behind (NoMemory nine put same) file text none = inr nine
 
   -- ---- with a report or without
 
@@ -339,29 +347,38 @@ module _ (words : List (List ℕ)) (held : Option (List ℕ)) (before after : To
       go (Some r) is none = run_ended r is (λ four. omega arith) (λ nine. omega arith)
       go None is none = absurd (bare_early behind (none refl) least most)
 
-    pub file_complete : (file bytes : List ℕ) (settings : Settings) (program : Parts) → job_of words ≡ Names (Sim file settings) → held ≡ Some bytes → program_of bytes ≡ Gives program
+    -- a run of a file's program, whoever chooses its order
+    pub run_complete : (order : Order) (file : List ℕ) (settings : Settings) → asked ≡ Names (file_job order file settings)
+        → (Rose before.2 after.2 → ⊥) → (Rose sink_before.1 sink_after.1 → ⊥) → IsSomeAnd report (λ r. status ≡ status_of r) ⊎ (status ≡ 9)
+    run_complete order file settings named stored written = go report run bare where
+      go : (r : Option Report) → IfSome r Runs → (r ≡ None → Bare) → IsSomeAnd r (λ r. status ≡ status_of r) ⊎ (status ≡ 9)
+      go (Some r) is none = comes_whole _ _ _ before after sink_before sink_after status is.comes_to stored written
+      go None is none = inr (bare_file behind (none refl) order file settings named)
+
+    -- where numbers choose it the program and the options tell the status
+    pub file_complete : (file bytes : List ℕ) (settings : Settings) (program : Parts) → asked ≡ Names (Sim file settings) → held ≡ Some bytes → program_of bytes ≡ Gives program
         → (Rose before.2 after.2 → ⊥) → (Rose sink_before.1 sink_after.1 → ⊥) → (status ≡ status_of_run program settings) ⊎ (status ≡ 9)
-    file_complete file bytes settings program asked told gives stored written = go report run bare where
+    file_complete file bytes settings program named told gives stored written = go report run bare where
       go : (r : Option Report) → IfSome r Runs → (r ≡ None → Bare) → (status ≡ status_of_run program settings) ⊎ (status ≡ 9)
       go (Some r) is none =
-          subst (λ (e : ℕ). (status ≡ e) ⊎ (status ≡ 9)) (asked_status r is.task file bytes settings program is.asked is.reported asked told gives)
+          subst (λ (e : ℕ). (status ≡ e) ⊎ (status ≡ 9)) (asked_status r is.task file bytes settings program is.is_asked is.reported is.in_order named told gives)
           (comes_whole _ _ _ before after sink_before sink_after status is.comes_to stored written)
-      go None is none = inr (bare_file behind (none refl) file settings asked)
+      go None is none = inr (bare_file behind (none refl) ByNumbers file settings named)
 
-    pub numbers_complete : (n q : ℕ) (settings : Settings) → job_of words ≡ Names (Gen n q settings)
+    pub numbers_complete : (n q : ℕ) (settings : Settings) → asked ≡ Names (Gen n q settings)
         → (Rose before.2 after.2 → ⊥) → (Rose sink_before.1 sink_after.1 → ⊥) → (status ≡ status_of_run (generated n q) settings) ⊎ (status ≡ 9)
-    numbers_complete n q settings asked stored written = go report run bare where
+    numbers_complete n q settings named stored written = go report run bare where
       go : (r : Option Report) → IfSome r Runs → (r ≡ None → Bare) → (status ≡ status_of_run (generated n q) settings) ⊎ (status ≡ 9)
       go (Some r) is none =
-          subst (λ (e : ℕ). (status ≡ e) ⊎ (status ≡ 9)) (numbers_status r is.task n q settings is.asked is.reported asked)
+          subst (λ (e : ℕ). (status ≡ e) ⊎ (status ≡ 9)) (numbers_status r is.task n q settings is.is_asked is.reported is.in_order named)
           (comes_whole _ _ _ before after sink_before sink_after status is.comes_to stored written)
-      go None is none = inr (bare_numbers behind (none refl) n q settings asked stored)
+      go None is none = inr (bare_numbers behind (none refl) n q settings named stored)
 
-    pub dump_complete : (file : List ℕ) → job_of words ≡ Names (Dump file) → (Rose sink_before.1 sink_after.1 → ⊥) → (status ≡ 0) ⊎ (status ≡ 9)
-    dump_complete file asked written = go report run bare where
+    pub dump_complete : (file : List ℕ) → asked ≡ Names (Dump file) → (Rose sink_before.1 sink_after.1 → ⊥) → (status ≡ 0) ⊎ (status ≡ 9)
+    dump_complete file named written = go report run bare where
       go : (r : Option Report) → IfSome r Runs → (r ≡ None → Bare) → (status ≡ 0) ⊎ (status ≡ 9)
-      go (Some r) is none = absurd (run_of_no_dump r file is asked)
-      go None is none = bare_dump behind (none refl) file asked written
+      go (Some r) is none = absurd (run_of_no_dump r file is named)
+      go None is none = bare_dump behind (none refl) file named written
 
   -- a run tells how it ended
   pub all_ended : (report : Option Report) → IfSome report Runs → IfSome report (λ r. status ≢ 4 → status ≢ 9 → status ≡ status_of r)
@@ -369,9 +386,9 @@ module _ (words : List (List ℕ)) (held : Option (List ℕ)) (before after : To
   all_ended (Some report) run = run_ended report run
 
 -- the text of a profile was written
-pub dumped_bare : (words : List (List ℕ)) (held : Option (List ℕ)) (before : Told) (sink_before sink_after : Sunk) (told status : ℕ) → status ≡ told → (file : List ℕ) → job_of words ≡ Names (Dump file)
-    → IsDump held sink_before sink_after told → EndsWithoutReport words held before before sink_before sink_after status
-dumped_bare words held before sink_before sink_after told status is file job dump =
+pub dumped_bare : (asked : Reading Job) (held : Option (List ℕ)) (before : Told) (sink_before sink_after : Sunk) (told status : ℕ) → status ≡ told → (file : List ℕ) → asked ≡ Names (Dump file)
+    → IsDump held sink_before sink_after told → EndsWithoutReport asked held before before sink_before sink_after status
+dumped_bare asked held before sink_before sink_after told status is file job dump =
     Dumped
     (record {
       file = file;

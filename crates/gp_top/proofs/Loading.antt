@@ -1,5 +1,5 @@
 -- What failed reads and refused texts tell of the source.
-use Rattle.std.proofs.Common.{◌≡◌, ◌≤◌, ◌+◌, ℕ, List, [], length, false, ap, arith, Option, Some, None, Result, Ok, Err, refl, sym, ◌∙◌, subst, IsErrAnd, IfErr, inl, inr}
+use Rattle.std.proofs.Common.{◌≡◌, ◌≤◌, ◌+◌, ℕ, List, [], length, ap, arith, Option, Some, None, Result, Ok, Err, refl, sym, ◌∙◌, subst, IsErrAnd, IfErr, inl, inr}
 use Rattle.std.specs.Prelude.{IfSome}
 use Rattle.std.proofs.lemmas.List.{drop_all}
 use Rattle.gp_io.specs.Outside.{Rose}
@@ -12,9 +12,9 @@ use Rattle.gp_text.specs.Reading.{program_of, Refuses, IsRefusalOf}
 use Rattle.gp_report.specs.declared.refusal.Fault.TheVariants.{Usage, Line, At, Long, Read}
 use Rattle.gp_words.specs.declared.error.WordError.{WordError}
 use Rattle.gp_words.specs.declared.error.WordError.TheVariants as words
-use Rattle.gp_words.specs.Job.{job_of}
-use Rattle.gp_words.specs.Read.{IsFault, Names}
-use Rattle.gp_words.specs.declared.jobs.Job.TheVariants.{Sim, Dump}
+use Rattle.gp_words.specs.Read.{Read as Reading, IsFault, Names}
+use Rattle.gp_words.specs.declared.jobs.Job.{Job}
+use Rattle.gp_words.specs.declared.jobs.Job.TheVariants.{Dump}
 use Rattle.gp_journal.specs.declared.settings.Settings.{Settings}
 use Rattle.gp_wire.specs.Reading as reading
 use Rattle.gp_wire.specs.declared.cause.Cause.{Cause as WireCause}
@@ -23,8 +23,8 @@ use Rattle.gp_wire.specs.declared.error.WireError.TheVariants as profile
 use Rattle.gp_top.specs.declared.stop.Stop.{Stop}
 use Rattle.gp_top.specs.declared.stop.Stop.TheVariants as stop
 use Rattle.gp_top.specs.kept.Steps.{stop_of_words, stop_of_read, stop_of_text, stop_of_profile, LoadStops, ProfileStops, RunStops, WordsStop}
-use Rattle.gp_top.specs.Asked.{is_run, asked_of, IsTooLong, IsFaulty, IsFaultyProfile, IsReadTo}
-use Rattle.gp_top.proofs.Asking.{asked_other}
+use Rattle.gp_top.specs.Report.{Order}
+use Rattle.gp_top.specs.Asked.{file_job, IsTooLong, IsFaulty, IsFaultyProfile, IsReadTo}
 
 -- a source that was read to its end within a limit
 pub whole_read : (limit : ℕ) (held left : Option (List ℕ)) (bytes : List ℕ) → IfSome held (λ all. bytes ≡ all) → length bytes ≤ limit → IfSome held (λ _. left ≡ Some [])
@@ -81,7 +81,7 @@ module _ {S : Type 0} (left : S → Option (List ℕ)) (faults : S → ℕ) (old
   profile_refused profile.Memory bytes all few whole well refusal = tt
 
 -- what stops a job at its words, and behind them
-module _ {S : Type 0} (left : S → Option (List ℕ)) (faults : S → ℕ) (asked : List (List ℕ)) (old new : S) where
+module _ {S : Type 0} (left : S → Option (List ℕ)) (faults : S → ℕ) (asked : Reading Job) (old new : S) where
   pub stopped_words : (stop : Stop) → WordsStop asked stop → new ≡ old → RunStops left faults asked old new stop
   stopped_words (stop.Fault (Usage place cause)) e same = (e, same)
   stopped_words (stop.Fault (Line line cause)) e same = absurd e
@@ -90,15 +90,15 @@ module _ {S : Type 0} (left : S → Option (List ℕ)) (faults : S → ℕ) (ask
   stopped_words (stop.Fault Read) e same = absurd e
   stopped_words stop.Memory e same = tt
 
-  pub stopped_load : (stop : Stop) (file : List ℕ) (settings : Settings) → asked_of asked ≡ Names (Sim file settings) → LoadStops left faults old new stop → RunStops left faults asked old new stop
-  stopped_load (stop.Fault (Usage place cause)) file settings job tells = absurd tells
-  stopped_load (stop.Fault (Line line cause)) file settings job tells = ((file, settings, job), tells)
-  stopped_load (stop.Fault (At at cause)) file settings job tells = absurd tells
-  stopped_load (stop.Fault Long) file settings job tells = inl ((file, settings, job), tells)
-  stopped_load (stop.Fault Read) file settings job tells = (inl (file, settings, job), tells)
-  stopped_load stop.Memory file settings job tells = tt
+  pub stopped_load : (stop : Stop) (order : Order) (file : List ℕ) (settings : Settings) → asked ≡ Names (file_job order file settings) → LoadStops left faults old new stop → RunStops left faults asked old new stop
+  stopped_load (stop.Fault (Usage place cause)) order file settings job tells = absurd tells
+  stopped_load (stop.Fault (Line line cause)) order file settings job tells = ((order, file, settings, job), tells)
+  stopped_load (stop.Fault (At at cause)) order file settings job tells = absurd tells
+  stopped_load (stop.Fault Long) order file settings job tells = inl ((order, file, settings, job), tells)
+  stopped_load (stop.Fault Read) order file settings job tells = (inl (order, file, settings, job), tells)
+  stopped_load stop.Memory order file settings job tells = tt
 
-  pub stopped_profile : (stop : Stop) (file : List ℕ) → asked_of asked ≡ Names (Dump file) → ProfileStops left faults old new stop → RunStops left faults asked old new stop
+  pub stopped_profile : (stop : Stop) (file : List ℕ) → asked ≡ Names (Dump file) → ProfileStops left faults old new stop → RunStops left faults asked old new stop
   stopped_profile (stop.Fault (Usage place cause)) file job tells = absurd tells
   stopped_profile (stop.Fault (Line line cause)) file job tells = absurd tells
   stopped_profile (stop.Fault (At at cause)) file job tells = ((file, job), tells)
@@ -106,7 +106,7 @@ module _ {S : Type 0} (left : S → Option (List ℕ)) (faults : S → ℕ) (ask
   stopped_profile (stop.Fault Read) file job tells = (inr (file, job), tells)
   stopped_profile stop.Memory file job tells = tt
 
--- words that don't begin with `run`, which are at fault
-pub words_stop : (asked : List (List ℕ)) (e : WordError) → is_run asked ≡ false → IsFault e (job_of asked) → WordsStop asked (stop_of_words e)
-words_stop asked (words.Usage place cause) other fault = asked_other asked other ∙ fault
-words_stop asked words.Memory other fault = tt
+-- words that are at fault
+pub words_fault : (asked : Reading Job) (e : WordError) → IsFault e asked → WordsStop asked (stop_of_words e)
+words_fault asked (words.Usage place cause) fault = fault
+words_fault asked words.Memory fault = tt

@@ -8,18 +8,19 @@ use Rattle.gp_report.specs.declared.refusal.Fault.{Fault}
 use Rattle.gp_report.specs.declared.refusal.Fault.TheVariants.{Usage, Line, At, Long, Read}
 use Rattle.gp_text.specs.Reading.{program_of, Gives}
 use Rattle.gp_text.specs.declared.cause.Cause.{Cause}
-use Rattle.gp_words.specs.Job.{job_of}
-use Rattle.gp_words.specs.Read.{Names}
-use Rattle.gp_words.specs.declared.jobs.Job.TheVariants.{Sim, Gen, Dump}
+use Rattle.gp_words.specs.Read.{Read as Reading, Names}
+use Rattle.gp_words.specs.declared.jobs.Job.{Job}
+use Rattle.gp_words.specs.declared.jobs.Job.TheVariants.{Gen, Dump}
 use Rattle.gp_wire.specs.Reading as reading
 use Rattle.gp_wire.specs.declared.cause.Cause.{Cause as WireCause}
 use Rattle.gp_wire.specs.declared.profile.Profile.{Profile}
 use Rattle.gp_top.specs.Exit.{exit_of}
-use Rattle.gp_top.specs.Asked.{asked_of, GiveNoJob, HaveJob, GiveNoProgram, GiveNoProfile, IsTooLong, IsFaulty, IsFaultyProfile, IsRefused, IsReadWhole}
+use Rattle.gp_top.specs.Report.{Order, ByNumbers, ByThreads}
+use Rattle.gp_top.specs.Asked.{file_job, limit_of, GiveNoJob, HaveJob, GiveNoProgram, GiveNoProfile, IsTooLong, IsFaulty, IsFaultyProfile, IsBad, IsRefused, IsReadFor, IsReadTo, IsReadWhole}
 use Rattle.gp_top.specs.Putting.{Sunk}
 use Rattle.gp_top.specs.Top.{IsRefusal, IsWritten, TellsUsage, TellsRefused, TellsLong, TellsLine, TellsAt}
 use Rattle.gp_top.specs.kept.Steps.{AskToRead, HeldTooMuch, FaultTells}
-use Rattle.gp_top.proofs.Asking.{asked_names, asked_sim, asked_gen, asked_dump, one_job}
+use Rattle.gp_top.proofs.Asking.{file_not_numbers, file_not_text, text_not_numbers}
 
 -- how a line was written, by the answer of its write
 pub is_written : {T E : Type 0} (r : Result T E) (line : List ℕ) (before after : Sunk) → OnOk r (Appends before.0 line after.0) → OnErr r (AppendsSome before.0 line after.0)
@@ -96,127 +97,142 @@ module _ (status : ℕ) where
   no_put_fault Read (inl is) four = omega arith
   no_put_fault what (inr is) four = omega arith
 
-module _ {S : Type 0} (left : S → Option (List ℕ)) (faults : S → ℕ) (words : List (List ℕ)) (old new : S) (status : ℕ) where
+-- what a run of a file's program reads, whoever chooses its order
+file_bad : (order : Order) (file : List ℕ) (settings : Settings) (held : Option (List ℕ)) → IfSome held (λ all. GiveNoProgram all ⊎ (1048576 < length all)) → IsBad (file_job order file settings) held
+file_bad ByNumbers file settings held bad = bad
+file_bad ByThreads file settings held bad = bad
+
+file_whole : (order : Order) (file : List ℕ) (settings : Settings) (held left : Option (List ℕ)) → IsReadTo 1048576 held left → IsReadFor (file_job order file settings) held left
+file_whole ByNumbers file settings held left whole = whole
+file_whole ByThreads file settings held left whole = whole
+
+file_long : (order : Order) (file : List ℕ) (settings : Settings) (held : Option (List ℕ)) → IsTooLong 1048576 held → IsTooLong (limit_of (file_job order file settings)) held
+file_long ByNumbers file settings held long = long
+file_long ByThreads file settings held long = long
+
+module _ {S : Type 0} (left : S → Option (List ℕ)) (faults : S → ℕ) (asked : Reading Job) (old new : S) (status : ℕ) where
   -- what is read
-  read_job : AskToRead words → HaveJob words
-  read_job (inl run) = record { job = Sim run.0 run.1; names = run.2 }
+  read_job : AskToRead asked → HaveJob asked
+  read_job (inl run) = record { job = file_job run.0 run.1 run.2; names = run.3 }
   read_job (inr text) = record { job = Dump text.0; names = text.1 }
 
   -- where it's too much
-  long_job : HeldTooMuch left faults words old new → HaveJob words
+  long_job : HeldTooMuch left faults asked old new → HaveJob asked
   long_job (inl run) = read_job (inl run.0)
   long_job (inr text) = read_job (inr text.0)
 
-  long_refused : HeldTooMuch left faults words old new → IsRefused words (left old)
-  long_refused (inl run) = record { job = Sim run.0.0 run.0.1; names = run.0.2; bad = refused_long GiveNoProgram 1048576 (left old) run.1.0 }
+  long_refused : HeldTooMuch left faults asked old new → IsRefused asked (left old)
+  long_refused (inl run) =
+      record { job = file_job run.0.0 run.0.1 run.0.2; names = run.0.3; bad = file_bad run.0.0 run.0.1 run.0.2 (left old) (refused_long GiveNoProgram 1048576 (left old) run.1.0) }
   long_refused (inr text) = record { job = Dump text.0.0; names = text.0.1; bad = refused_long GiveNoProfile 67108864 (left old) text.1.0 }
 
-  long_whole : HeldTooMuch left faults words old new → IsReadWhole words (left old) (left new)
-  long_whole (inl run) = record { job = Sim run.0.0 run.0.1; names = run.0.2; whole = run.1.1.0 }
+  long_whole : HeldTooMuch left faults asked old new → IsReadWhole asked (left old) (left new)
+  long_whole (inl run) = record { job = file_job run.0.0 run.0.1 run.0.2; names = run.0.3; whole = file_whole run.0.0 run.0.1 run.0.2 (left old) (left new) run.1.1.0 }
   long_whole (inr text) = record { job = Dump text.0.0; names = text.0.1; whole = text.1.1.0 }
 
-  long_well : HeldTooMuch left faults words old new → faults new ≡ faults old
+  long_well : HeldTooMuch left faults asked old new → faults new ≡ faults old
   long_well (inl run) = run.1.1.1
   long_well (inr text) = text.1.1.1
 
-  long_told : {before after : Sunk} → HeldTooMuch left faults words old new → IsWritten (fault_line Long) before after → TellsRefused words (left old) before after
-  long_told (inl run) written = TellsLong (Sim run.0.0 run.0.1) (asked_names words (Sim run.0.0 run.0.1) run.0.2) run.1.0 written
-  long_told (inr text) written = TellsLong (Dump text.0.0) (asked_names words (Dump text.0.0) text.0.1) text.1.0 written
+  long_told : {before after : Sunk} → HeldTooMuch left faults asked old new → IsWritten (fault_line Long) before after → TellsRefused asked (left old) before after
+  long_told (inl run) written = TellsLong (file_job run.0.0 run.0.1 run.0.2) run.0.3 (file_long run.0.0 run.0.1 run.0.2 (left old) run.1.0) written
+  long_told (inr text) written = TellsLong (Dump text.0.0) text.0.1 text.1.0 written
 
   -- status 1
-  usage_at : (what : Fault) → status ≡ exit_of what → FaultTells left faults words old new what → status ≡ 1 → GiveNoJob words × (new ≡ old)
+  usage_at : (what : Fault) → status ≡ exit_of what → FaultTells left faults asked old new what → status ≡ 1 → GiveNoJob asked × (new ≡ old)
   usage_at (Usage place cause) is tells one = (record { place = place; cause = cause; faults = tells.0 }, tells.1)
   usage_at (Line line cause) is tells one = absurd (omega arith)
   usage_at (At at cause) is tells one = absurd (omega arith)
   usage_at Long is tells one = absurd (omega arith)
   usage_at Read is tells one = absurd (omega arith)
 
-  pub usage : (what : Fault) → (status ≡ exit_of what) ⊎ (status ≡ 9) → FaultTells left faults words old new what → status ≡ 1 → GiveNoJob words × (new ≡ old)
+  pub usage : (what : Fault) → (status ≡ exit_of what) ⊎ (status ≡ 9) → FaultTells left faults asked old new what → status ≡ 1 → GiveNoJob asked × (new ≡ old)
   usage what is tells one = usage_at what (decided what status is (λ nine. absurd (omega arith))) tells one
 
-  job_at : (what : Fault) → status ≡ exit_of what → FaultTells left faults words old new what → status ≢ 1 → HaveJob words
+  job_at : (what : Fault) → status ≡ exit_of what → FaultTells left faults asked old new what → status ≢ 1 → HaveJob asked
   job_at (Usage place cause) is tells other = absurd (other is)
-  job_at (Line line cause) is tells other = record { job = Sim tells.0.0 tells.0.1; names = tells.0.2 }
+  job_at (Line line cause) is tells other = record { job = file_job tells.0.0 tells.0.1 tells.0.2; names = tells.0.3 }
   job_at (At at cause) is tells other = record { job = Dump tells.0.0; names = tells.0.1 }
   job_at Long is tells other = long_job tells
   job_at Read is tells other = read_job tells.0
 
-  pub have_job : (what : Fault) → (status ≡ exit_of what) ⊎ (status ≡ 9) → FaultTells left faults words old new what → status ≢ 1 → status ≢ 9 → HaveJob words
+  pub have_job : (what : Fault) → (status ≡ exit_of what) ⊎ (status ≡ 9) → FaultTells left faults asked old new what → status ≢ 1 → status ≢ 9 → HaveJob asked
   have_job what is tells other enough = job_at what (decided what status is enough) tells other
 
   -- status 2
-  refused_at : (what : Fault) → status ≡ exit_of what → FaultTells left faults words old new what → status ≡ 2 → IsRefused words (left old)
+  refused_at : (what : Fault) → status ≡ exit_of what → FaultTells left faults asked old new what → status ≡ 2 → IsRefused asked (left old)
   refused_at (Usage place cause) is tells two = absurd (omega arith)
   refused_at (Line line number) is tells two =
-      record { job = Sim tells.0.0 tells.0.1; names = tells.0.2; bad = refused_line (left old) line tells.1.0.0 tells.1.0.2 }
+      record { job = file_job tells.0.0 tells.0.1 tells.0.2; names = tells.0.3; bad = file_bad tells.0.0 tells.0.1 tells.0.2 (left old) (refused_line (left old) line tells.1.0.0 tells.1.0.2) }
   refused_at (At at number) is tells two =
       record { job = Dump tells.0.0; names = tells.0.1; bad = refused_profile (left old) at tells.1.0.0 tells.1.0.2 }
   refused_at Long is tells two = long_refused tells
   refused_at Read is tells two = absurd (omega arith)
 
-  pub refused : (what : Fault) → (status ≡ exit_of what) ⊎ (status ≡ 9) → FaultTells left faults words old new what → status ≡ 2 → IsRefused words (left old)
+  pub refused : (what : Fault) → (status ≡ exit_of what) ⊎ (status ≡ 9) → FaultTells left faults asked old new what → status ≡ 2 → IsRefused asked (left old)
   refused what is tells two = refused_at what (decided what status is (λ nine. absurd (omega arith))) tells two
 
   -- what was read
-  whole_at : (what : Fault) → status ≡ exit_of what → FaultTells left faults words old new what → status ≢ 1 → status ≢ 3 → IsReadWhole words (left old) (left new)
+  whole_at : (what : Fault) → status ≡ exit_of what → FaultTells left faults asked old new what → status ≢ 1 → status ≢ 3 → IsReadWhole asked (left old) (left new)
   whole_at (Usage place cause) is tells other behind = absurd (other is)
-  whole_at (Line line number) is tells other behind = record { job = Sim tells.0.0 tells.0.1; names = tells.0.2; whole = tells.1.1.0 }
+  whole_at (Line line number) is tells other behind =
+      record { job = file_job tells.0.0 tells.0.1 tells.0.2; names = tells.0.3; whole = file_whole tells.0.0 tells.0.1 tells.0.2 (left old) (left new) tells.1.1.0 }
   whole_at (At at number) is tells other behind = record { job = Dump tells.0.0; names = tells.0.1; whole = tells.1.1.0 }
   whole_at Long is tells other behind = long_whole tells
   whole_at Read is tells other behind = absurd (behind is)
 
-  pub whole : (what : Fault) → (status ≡ exit_of what) ⊎ (status ≡ 9) → FaultTells left faults words old new what → status ≢ 1 → status ≢ 3 → status ≢ 9
-      → IsReadWhole words (left old) (left new)
+  pub whole : (what : Fault) → (status ≡ exit_of what) ⊎ (status ≡ 9) → FaultTells left faults asked old new what → status ≢ 1 → status ≢ 3 → status ≢ 9
+      → IsReadWhole asked (left old) (left new)
   whole what is tells other behind enough = whole_at what (decided what status is enough) tells other behind
 
   -- status 3
-  fault_at : (what : Fault) → status ≡ exit_of what → FaultTells left faults words old new what → status ≡ 3 → Rose (faults old) (faults new)
+  fault_at : (what : Fault) → status ≡ exit_of what → FaultTells left faults asked old new what → status ≡ 3 → Rose (faults old) (faults new)
   fault_at (Usage place cause) is tells three = absurd (omega arith)
   fault_at (Line line cause) is tells three = absurd (omega arith)
   fault_at (At at cause) is tells three = absurd (omega arith)
   fault_at Long is tells three = absurd (omega arith)
   fault_at Read is tells three = tells.1
 
-  pub read_fault : (what : Fault) → (status ≡ exit_of what) ⊎ (status ≡ 9) → FaultTells left faults words old new what → status ≡ 3 → Rose (faults old) (faults new)
+  pub read_fault : (what : Fault) → (status ≡ exit_of what) ⊎ (status ≡ 9) → FaultTells left faults asked old new what → status ≡ 3 → Rose (faults old) (faults new)
   read_fault what is tells three = fault_at what (decided what status is (λ nine. absurd (omega arith))) tells three
 
-  well_at : (what : Fault) → status ≡ exit_of what → FaultTells left faults words old new what → status ≢ 3 → faults new ≡ faults old
+  well_at : (what : Fault) → status ≡ exit_of what → FaultTells left faults asked old new what → status ≢ 3 → faults new ≡ faults old
   well_at (Usage place cause) is tells other = ap faults tells.1
   well_at (Line line cause) is tells other = tells.1.1.1
   well_at (At at cause) is tells other = tells.1.1.1
   well_at Long is tells other = long_well tells
   well_at Read is tells other = absurd (other is)
 
-  pub read_well : (what : Fault) → (status ≡ exit_of what) ⊎ (status ≡ 9) → FaultTells left faults words old new what → status ≢ 3 → status ≢ 9 → faults new ≡ faults old
+  pub read_well : (what : Fault) → (status ≡ exit_of what) ⊎ (status ≡ 9) → FaultTells left faults asked old new what → status ≢ 3 → status ≢ 9 → faults new ≡ faults old
   read_well what is tells other enough = well_at what (decided what status is enough) tells other
 
   module _ (before after : Sunk) where
     -- lines
-    usage_line_at : (what : Fault) → status ≡ exit_of what → FaultTells left faults words old new what → IsWritten (fault_line what) before after → status ≡ 1 → TellsUsage words before after
+    usage_line_at : (what : Fault) → status ≡ exit_of what → FaultTells left faults asked old new what → IsWritten (fault_line what) before after → status ≡ 1 → TellsUsage asked before after
     usage_line_at (Usage place cause) is tells written one = record { place = place; cause = cause; faults = tells.0; written = written }
     usage_line_at (Line line cause) is tells written one = absurd (omega arith)
     usage_line_at (At at cause) is tells written one = absurd (omega arith)
     usage_line_at Long is tells written one = absurd (omega arith)
     usage_line_at Read is tells written one = absurd (omega arith)
 
-    pub usage_line : (what : Fault) → (status ≡ exit_of what) ⊎ (status ≡ 9) → FaultTells left faults words old new what → (status ≢ 9 → IsWritten (fault_line what) before after)
-        → status ≡ 1 → TellsUsage words before after
+    pub usage_line : (what : Fault) → (status ≡ exit_of what) ⊎ (status ≡ 9) → FaultTells left faults asked old new what → (status ≢ 9 → IsWritten (fault_line what) before after)
+        → status ≡ 1 → TellsUsage asked before after
     usage_line what is tells written one =
         let other : status ≢ 9 = λ nine. absurd (omega arith) in
         usage_line_at what (decided what status is other) tells (written other) one
 
-    refused_line_at : (what : Fault) → status ≡ exit_of what → FaultTells left faults words old new what → IsWritten (fault_line what) before after → status ≡ 2
-        → TellsRefused words (left old) before after
+    refused_line_at : (what : Fault) → status ≡ exit_of what → FaultTells left faults asked old new what → IsWritten (fault_line what) before after → status ≡ 2
+        → TellsRefused asked (left old) before after
     refused_line_at (Usage place cause) is tells written two = absurd (omega arith)
     refused_line_at (Line line number) is tells written two =
-        TellsLine tells.0.0 tells.0.1 (asked_names words (Sim tells.0.0 tells.0.1) tells.0.2) line tells.1.0.0 tells.1.0.2 (subst (λ (n : ℕ). IsWritten (fault_line (Line line n)) before after) tells.1.0.1 written)
+        TellsLine tells.0.0 tells.0.1 tells.0.2 tells.0.3 line tells.1.0.0 tells.1.0.2 (subst (λ (n : ℕ). IsWritten (fault_line (Line line n)) before after) tells.1.0.1 written)
     refused_line_at (At at number) is tells written two =
-        TellsAt tells.0.0 (asked_names words (Dump tells.0.0) tells.0.1) at tells.1.0.0 tells.1.0.2 (subst (λ (n : ℕ). IsWritten (fault_line (At at n)) before after) tells.1.0.1 written)
+        TellsAt tells.0.0 tells.0.1 at tells.1.0.0 tells.1.0.2 (subst (λ (n : ℕ). IsWritten (fault_line (At at n)) before after) tells.1.0.1 written)
     refused_line_at Long is tells written two = long_told tells written
     refused_line_at Read is tells written two = absurd (omega arith)
 
-    pub refused_told : (what : Fault) → (status ≡ exit_of what) ⊎ (status ≡ 9) → FaultTells left faults words old new what → (status ≢ 9 → IsWritten (fault_line what) before after)
-        → status ≡ 2 → TellsRefused words (left old) before after
+    pub refused_told : (what : Fault) → (status ≡ exit_of what) ⊎ (status ≡ 9) → FaultTells left faults asked old new what → (status ≢ 9 → IsWritten (fault_line what) before after)
+        → status ≡ 2 → TellsRefused asked (left old) before after
     refused_told what is tells written two =
         let other : status ≢ 9 = λ nine. absurd (omega arith) in
         refused_line_at what (decided what status is other) tells (written other) two
@@ -233,54 +249,47 @@ module _ {S : Type 0} (left : S → Option (List ℕ)) (faults : S → ℕ) (wor
         let other : status ≢ 9 = λ nine. absurd (omega arith) in
         read_line_at what (decided what status is other) (written other) three
 
-  -- words for one job are none for another
-  no_text : (file name : List ℕ) (settings : Settings) → job_of words ≡ Names (Sim file settings) → asked_of words ≡ Names (Dump name) → ⊥
-  no_text file name settings job e = let same : Sim file settings ≡ Dump name = one_job words (Sim file settings) (Dump name) job (asked_names words (Dump name) e) in absurd cc
-
-  no_run : (file name : List ℕ) (settings : Settings) → job_of words ≡ Names (Dump file) → asked_of words ≡ Names (Sim name settings) → ⊥
-  no_run file name settings job e =
-      let same : Dump file ≡ Sim name settings = one_job words (Dump file) (Sim name settings) job (asked_names words (Sim name settings) e) in absurd cc
-
-  no_read : (n q : ℕ) (settings : Settings) → job_of words ≡ Names (Gen n q settings) → AskToRead words → ⊥
-  no_read n q settings job (inl run) =
-      let same : Gen n q settings ≡ Sim run.0 run.1 = one_job words (Gen n q settings) (Sim run.0 run.1) job (asked_names words (Sim run.0 run.1) run.2) in absurd cc
-  no_read n q settings job (inr text) =
-      let same : Gen n q settings ≡ Dump text.0 = one_job words (Gen n q settings) (Dump text.0) job (asked_names words (Dump text.0) text.1) in absurd cc
+  no_read : (n q : ℕ) (settings : Settings) → asked ≡ Names (Gen n q settings) → AskToRead asked → ⊥
+  no_read n q settings job (inl run) = file_not_numbers asked run.0 run.1 run.2 settings n q run.3 job
+  no_read n q settings job (inr text) = text_not_numbers asked text.0 settings n q text.1 job
 
   -- no fault comes of right words and a right file without a read that fails
-  long_run : (file bytes : List ℕ) (settings : Settings) → HeldTooMuch left faults words old new → job_of words ≡ Names (Sim file settings) → left old ≡ Some bytes → length bytes ≤ 1048576 → ⊥
-  long_run file bytes settings (inl run) job held few = accepted_long 1048576 (left old) bytes held few run.1.0
-  long_run file bytes settings (inr text) job held few = no_text file text.0.0 settings job text.0.1
+  module _ (order : Order) (file bytes : List ℕ) (settings : Settings) (program : Parts) (job : asked ≡ Names (file_job order file settings)) (held : left old ≡ Some bytes)
+      (few : length bytes ≤ 1048576) (gives : program_of bytes ≡ Gives program) (well : Rose (faults old) (faults new) → ⊥) where
+    long_run : HeldTooMuch left faults asked old new → ⊥
+    long_run (inl run) = accepted_long 1048576 (left old) bytes held few run.1.0
+    long_run (inr text) = file_not_text asked order file text.0.0 settings job text.0.1
 
-  pub no_fault : (what : Fault) (file bytes : List ℕ) (settings : Settings) (program : Parts) → FaultTells left faults words old new what → job_of words ≡ Names (Sim file settings)
-      → left old ≡ Some bytes → length bytes ≤ 1048576 → program_of bytes ≡ Gives program → (Rose (faults old) (faults new) → ⊥) → ⊥
-  no_fault (Usage place cause) file bytes settings program tells job held few gives well = let e = sym tells.0 ∙ asked_sim words file settings job in absurd cc
-  no_fault (Line line number) file bytes settings program tells job held few gives well = accepted_line (left old) bytes program line tells.1.0.0 held gives tells.1.0.2
-  no_fault (At at number) file bytes settings program tells job held few gives well = no_text file tells.0.0 settings job tells.0.1
-  no_fault Long file bytes settings program tells job held few gives well = long_run file bytes settings tells job held few
-  no_fault Read file bytes settings program tells job held few gives well = well tells.1
+    pub no_fault : (what : Fault) → FaultTells left faults asked old new what → ⊥
+    no_fault (Usage place cause) tells = let e = sym tells.0 ∙ job in absurd cc
+    no_fault (Line line number) tells = accepted_line (left old) bytes program line tells.1.0.0 held gives tells.1.0.2
+    no_fault (At at number) tells = file_not_text asked order file tells.0.0 settings job tells.0.1
+    no_fault Long tells = long_run tells
+    no_fault Read tells = well tells.1
 
   -- nor of right words for a generated program
-  long_gen : (n q : ℕ) (settings : Settings) → job_of words ≡ Names (Gen n q settings) → HeldTooMuch left faults words old new → ⊥
-  long_gen n q settings job (inl run) = no_read n q settings job (inl run.0)
-  long_gen n q settings job (inr text) = no_read n q settings job (inr text.0)
+  module _ (n q : ℕ) (settings : Settings) (job : asked ≡ Names (Gen n q settings)) where
+    long_gen : HeldTooMuch left faults asked old new → ⊥
+    long_gen (inl run) = no_read n q settings job (inl run.0)
+    long_gen (inr text) = no_read n q settings job (inr text.0)
 
-  pub no_fault_of_numbers : (what : Fault) (n q : ℕ) (settings : Settings) → FaultTells left faults words old new what → job_of words ≡ Names (Gen n q settings) → ⊥
-  no_fault_of_numbers (Usage place cause) n q settings tells job = let e = sym tells.0 ∙ asked_gen words n q settings job in absurd cc
-  no_fault_of_numbers (Line line number) n q settings tells job = no_read n q settings job (inl tells.0)
-  no_fault_of_numbers (At at number) n q settings tells job = no_read n q settings job (inr tells.0)
-  no_fault_of_numbers Long n q settings tells job = long_gen n q settings job tells
-  no_fault_of_numbers Read n q settings tells job = no_read n q settings job tells.0
+    pub no_fault_of_numbers : (what : Fault) → FaultTells left faults asked old new what → ⊥
+    no_fault_of_numbers (Usage place cause) tells = let e = sym tells.0 ∙ job in absurd cc
+    no_fault_of_numbers (Line line number) tells = no_read n q settings job (inl tells.0)
+    no_fault_of_numbers (At at number) tells = no_read n q settings job (inr tells.0)
+    no_fault_of_numbers Long tells = long_gen tells
+    no_fault_of_numbers Read tells = no_read n q settings job tells.0
 
   -- nor of right words and a right profile
-  long_text : (file bytes : List ℕ) → HeldTooMuch left faults words old new → job_of words ≡ Names (Dump file) → left old ≡ Some bytes → length bytes ≤ 67108864 → ⊥
-  long_text file bytes (inl run) job held few = no_run file run.0.0 run.0.1 job run.0.2
-  long_text file bytes (inr text) job held few = accepted_long 67108864 (left old) bytes held few text.1.0
+  module _ (file bytes : List ℕ) (profile : Profile) (job : asked ≡ Names (Dump file)) (held : left old ≡ Some bytes) (few : length bytes ≤ 67108864)
+      (gives : reading.value_of bytes ≡ reading.Gives profile) (well : Rose (faults old) (faults new) → ⊥) where
+    long_text : HeldTooMuch left faults asked old new → ⊥
+    long_text (inl run) = file_not_text asked run.0.0 run.0.1 file run.0.2 run.0.3 job
+    long_text (inr text) = accepted_long 67108864 (left old) bytes held few text.1.0
 
-  pub no_fault_of_profile : (what : Fault) (file bytes : List ℕ) (profile : Profile) → FaultTells left faults words old new what → job_of words ≡ Names (Dump file)
-      → left old ≡ Some bytes → length bytes ≤ 67108864 → reading.value_of bytes ≡ reading.Gives profile → (Rose (faults old) (faults new) → ⊥) → ⊥
-  no_fault_of_profile (Usage place cause) file bytes profile tells job held few gives well = let e = sym tells.0 ∙ asked_dump words file job in absurd cc
-  no_fault_of_profile (Line line number) file bytes profile tells job held few gives well = no_run file tells.0.0 tells.0.1 job tells.0.2
-  no_fault_of_profile (At at number) file bytes profile tells job held few gives well = accepted_profile (left old) bytes profile at tells.1.0.0 held gives tells.1.0.2
-  no_fault_of_profile Long file bytes profile tells job held few gives well = long_text file bytes tells job held few
-  no_fault_of_profile Read file bytes profile tells job held few gives well = well tells.1
+    pub no_fault_of_profile : (what : Fault) → FaultTells left faults asked old new what → ⊥
+    no_fault_of_profile (Usage place cause) tells = let e = sym tells.0 ∙ job in absurd cc
+    no_fault_of_profile (Line line number) tells = file_not_text asked tells.0.0 tells.0.1 file tells.0.2 tells.0.3 job
+    no_fault_of_profile (At at number) tells = accepted_profile (left old) bytes profile at tells.1.0.0 held gives tells.1.0.2
+    no_fault_of_profile Long tells = long_text tells
+    no_fault_of_profile Read tells = well tells.1

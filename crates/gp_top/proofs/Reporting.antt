@@ -1,7 +1,8 @@
 -- What a report tells of the journal of a run.
-use Rattle.std.proofs.Common.{◌≡◌, ◌≤◌, ◌<◌, ◌+◌, ◌^◌, inl, inr, ℕ, List, [], ◌∷◌, ◌++◌, length, get_or, take, map, refl, sym, ap, subst, ◌∙◌, arith}
-use Rattle.std.proofs.lemmas.Bool.{cases_lt}
-use Rattle.std.proofs.lemmas.List.{get_or_append_left, get_or_push, length_push, length-map, get_or-map, take_more, take_all}
+use Rattle.std.proofs.Common.{◌≡◌, ◌≤◌, ◌<◌, ◌+◌, ◌^◌, ℕ, List, [], ◌∷◌, ◌++◌, length, get_or, take, map, refl, sym, ap, subst, ◌∙◌, arith}
+use Rattle.std.proofs.lemmas.List.{length-map, get_or-map, take_more, take_all}
+use Rattle.std.proofs.lemmas.List.FromFn.{map-range_with_len_more}
+use Rattle.std.specs.List.{range_with_len}
 use Rattle.gp_isa.specs.declared.parts.Parts.{Parts}
 use Rattle.gp_events.specs.Event.{Event}
 use Rattle.gp_events.specs.declared.sum.Sum.{Sum}
@@ -17,9 +18,10 @@ use Rattle.gp_machine.specs.Effect.{after}
 use Rattle.gp_machine.specs.Run.{IsLegal, last, state_of}
 use Rattle.gp_machine.specs.Frozen.{rows_taken}
 use Rattle.gp_journal.specs.Actors.{made_by}
+use Rattle.gp_journal.specs.Told.{made_of}
 use Rattle.gp_journal.proofs.Lemmas.{kept_at}
 use Rattle.gp_journal.specs.Profiles.{records_from, records_of}
-use Rattle.gp_top.specs.Report.{ids_taken, recorded_ids, ids, refusals, AreMade}
+use Rattle.gp_top.specs.Report.{ids_taken, recorded_ids, ids, refusals}
 
 pub refusals_more : (xs : List Entry) (x : Entry) → refusals (xs ++ x ∷ []) ≡ refusals xs ++ refusals (x ∷ [])
 refusals_more [] x = refl
@@ -78,25 +80,20 @@ all_done workers done all at past so_far is =
     is ∙ (so_far ∙ take_all at (map instructions_of workers) (omega (arith, length-map workers instructions_of)))
 
 -- the number of entries of one actor more
-pub made_more : (settings : Settings) (journal : List Entry) (made now : List ℕ) (at n : ℕ) → length made ≡ at
-    → ((actor : ℕ) → actor < at → get_or made actor 0 ≡ made_by settings actor journal) → n ≡ made_by settings at journal → now ≡ made ++ n ∷ []
-    → (actor : ℕ) → actor < at + 1 → get_or now actor 0 ≡ made_by settings actor journal
-made_more settings journal made now at n number each is pushed actor below = elim (cases_lt actor at) [
-  | inl low ↦ ap (λ (l : List ℕ). get_or l actor 0) pushed ∙ (get_or_append_left made (n ∷ []) 0 actor (omega arith) ∙ each actor low)
-  | inr high ↦
-      let here : actor ≡ at = omega arith in
-      ap (λ (l : List ℕ). get_or l actor 0) pushed ∙ (get_or_push made n 0 actor (number ∙ sym here) ∙ (is ∙ ap (λ (a : ℕ). made_by settings a journal) (sym here)))
-]
-
-pub number_more : (made now : List ℕ) (at n : ℕ) → length made ≡ at → now ≡ made ++ n ∷ [] → length now ≡ at + 1
-number_more made now at n number pushed = ap length pushed ∙ (length_push made n ∙ ap (λ (k : ℕ). k + 1) number)
+pub made_more : (settings : Settings) (journal : List Entry) (made now : List ℕ) (at n : ℕ) → made ≡ map (λ actor. made_by settings actor journal) (range_with_len 0 at)
+    → n ≡ made_by settings at journal → now ≡ made ++ n ∷ [] → now ≡ map (λ actor. made_by settings actor journal) (range_with_len 0 (at + 1))
+made_more settings journal made now at n so_far is pushed =
+    let of : ℕ → ℕ = λ actor. made_by settings actor journal in
+    pushed ∙ (ap (λ (l : List ℕ). l ++ n ∷ []) so_far
+    ∙ (ap (λ (k : ℕ). map of (range_with_len 0 at) ++ k ∷ []) is ∙ sym (map-range_with_len_more of 0 at at (omega arith))))
 
 -- the numbers of all actors
-pub all_made : (settings given : Settings) (journal : List Entry) (made : List ℕ) (at : ℕ) → given ≡ settings → length made ≡ at → at ≤ given.workers + 1
-    → given.workers + 1 ≤ at → ((actor : ℕ) → actor < at → get_or made actor 0 ≡ made_by settings actor journal) → AreMade settings journal made
-all_made settings given journal made at same number within past each =
+pub all_made : (settings given : Settings) (journal : List Entry) (made all : List ℕ) (at : ℕ) → given ≡ settings → at ≤ given.workers + 1 → given.workers + 1 ≤ at
+    → made ≡ map (λ actor. made_by settings actor journal) (range_with_len 0 at) → all ≡ made → all ≡ made_of settings journal
+all_made settings given journal made all at same within past so_far is =
     let workers = ap (λ (s : Settings). s.workers) same in
-    record { actors = omega (arith, workers); each = λ actor few. each actor (omega (arith, workers)) }
+    let end : at ≡ settings.workers + 1 = omega (arith, workers) in
+    is ∙ (so_far ∙ ap (λ (k : ℕ). map (λ actor. made_by settings actor journal) (range_with_len 0 k)) end)
 
 module _ (code : Code) (settings : Settings) where
   taken_ids : (s : State) (entries : List Entry) → ids (rows_taken code settings s entries) ≡ ids_taken entries

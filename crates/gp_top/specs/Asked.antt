@@ -12,32 +12,41 @@ use Rattle.gp_wire.specs.declared.cause.Cause.{Cause as WireCause}
 use Rattle.gp_wire.specs.declared.profile.Profile.{Profile}
 use Rattle.gp_words.specs.Causes.{bad_command}
 use Rattle.gp_words.specs.declared.jobs.Job.{Job}
-use Rattle.gp_words.specs.declared.jobs.Job.TheVariants.{Sim, Gen, Dump}
+use Rattle.gp_words.specs.declared.jobs.Job.TheVariants.{Run, Sim, Gen, Dump}
 use Rattle.gp_words.specs.Job.{job_of}
 use Rattle.gp_words.specs.Read.{Read as Reading, Names, Faults}
+use Rattle.gp_top.specs.Report.{Order, ByNumbers, ByThreads}
 use Rattle.gp_top.specs.Task.{Task, read_task, generated_task}
 
 -- ---- words
 
--- whether words begin with `run`, which isn't served yet
+-- `top` does whatever job words name (`job_of`); `plain_top`, which has no threads, doesn't do runs on them (`asked_of`).
+-- Behind that both promise the same, so the definitions from here on take what the words ask for, whichever of the two it is.
+
+-- whether words begin with `run`
 abbrev pub is_run : List (List ℕ) → Bool
 is_run [] = false
 is_run (command ∷ words) = bytes_eq command (codes "run")
 
--- what words ask for: those that begin with `run` are at fault at that word, whatever follows
+-- what words ask for without threads: those that begin with `run` are at fault at that word, whatever follows
 unfoldable pub asked_of : List (List ℕ) → Reading Job
 asked_of words = if is_run words then Faults 0 bad_command else job_of words
 
--- The words give no job.
-pub record GiveNoJob (words : List (List ℕ)) : Type 0 where
+-- They ask for no job.
+pub record GiveNoJob (asked : Reading Job) : Type 0 where
   pub place : ℕ
   pub cause : ℕ
-  pub faults : asked_of words ≡ Faults place cause
+  pub faults : asked ≡ Faults place cause
 
--- They give one.
-pub record HaveJob (words : List (List ℕ)) : Type 0 where
+-- They ask for one.
+pub record HaveJob (asked : Reading Job) : Type 0 where
   pub job : Job
-  pub names : asked_of words ≡ Names job
+  pub names : asked ≡ Names job
+
+-- the job of a run of a file's program under options, in the order that numbers choose, or on threads
+abbrev pub file_job : Order → List ℕ → Settings → Job
+file_job ByNumbers file settings = Sim file settings
+file_job ByThreads file settings = Run file settings
 
 -- ---- bytes that were read
 
@@ -59,10 +68,10 @@ abbrev pub IsReadFor : Job → Option (List ℕ) → Option (List ℕ) → Type 
 IsReadFor (Gen n q settings) held left = left ≡ held
 IsReadFor job held left = IsReadTo (limit_of job) held left
 
--- The words name a job, and what is read for it was read.
-pub record IsReadWhole (words : List (List ℕ)) (held left : Option (List ℕ)) : Type 0 where
+-- A job is asked for, and what is read for it was read.
+pub record IsReadWhole (asked : Reading Job) (held left : Option (List ℕ)) : Type 0 where
   pub job : Job
-  pub names : asked_of words ≡ Names job
+  pub names : asked ≡ Names job
   pub whole : IsReadFor job held left
 
 -- The bytes are all that the source held, where that is told.
@@ -89,10 +98,10 @@ IsGood (Dump file) held = (profile : Profile) × IsProfile held profile
 IsGood (Gen n q settings) held = Unit {0}
 IsGood job held = (program : Parts) × IsAccepted held program
 
--- The words name a job, and the bytes that the source held are what it reads.
-pub record HaveGood (words : List (List ℕ)) (held : Option (List ℕ)) : Type 0 where
+-- A job is asked for, and the bytes that the source held are what it reads.
+pub record HaveGood (asked : Reading Job) (held : Option (List ℕ)) : Type 0 where
   pub job : Job
-  pub names : asked_of words ≡ Names job
+  pub names : asked ≡ Names job
   pub good : IsGood job held
 
 -- ---- bytes that are refused
@@ -115,10 +124,10 @@ IsBad (Dump file) held = IfSome held (λ all. GiveNoProfile all ⊎ (profile_byt
 IsBad (Gen n q settings) held = ⊥
 IsBad job held = IfSome held (λ all. GiveNoProgram all ⊎ (file_bytes < length all))
 
--- The words name a job, and what it reads is bad.
-pub record IsRefused (words : List (List ℕ)) (held : Option (List ℕ)) : Type 0 where
+-- A job is asked for, and what it reads is bad.
+pub record IsRefused (asked : Reading Job) (held : Option (List ℕ)) : Type 0 where
   pub job : Job
-  pub names : asked_of words ≡ Names job
+  pub names : asked ≡ Names job
   pub bad : IsBad job held
 
 -- The bytes that the source held are more than a limit.
@@ -135,10 +144,10 @@ IsFaultyProfile held at cause = IfSome held (λ all. (length all ≤ profile_byt
 
 -- ---- what is to be run
 
--- The words name a file and options, and the bytes read are all that the source held and give the program; or they name
--- two numbers and options, and the program is the generated one.
-pub data IsAsked (words : List (List ℕ)) (held : Option (List ℕ)) (task : Task) : Type 0 where
-  OfFile : (file : List ℕ) (settings : Settings) (program : Parts) → job_of words ≡ Names (Sim file settings)
-      → IsAccepted held program → task ≡ read_task file settings program → IsAsked words held task
-  OfNumbers : (n q : ℕ) (settings : Settings) → job_of words ≡ Names (Gen n q settings)
-      → task ≡ generated_task n q settings → IsAsked words held task
+-- A run of a file's program under options is asked for, and the bytes read are all that the source held and give that program;
+-- or one of the generated program of two numbers, under options.
+pub data IsAsked (asked : Reading Job) (held : Option (List ℕ)) (task : Task) : Type 0 where
+  OfFile : (order : Order) (file : List ℕ) (settings : Settings) (program : Parts) → asked ≡ Names (file_job order file settings)
+      → IsAccepted held program → task ≡ read_task order file settings program → IsAsked asked held task
+  OfNumbers : (n q : ℕ) (settings : Settings) → asked ≡ Names (Gen n q settings)
+      → task ≡ generated_task n q settings → IsAsked asked held task

@@ -2,6 +2,8 @@ ghost use Rattle.std.specs.Prelude.{◌≡◌, ◌≤◌, ℕ, List, None, Optio
 ghost use Rattle.gp_journal.specs.Settings.{AreInRange};
 ghost use Rattle.gp_text.specs.Text.{text_of};
 ghost use Rattle.gp_gen.specs.Generated.{generated};
+ghost use Rattle.gp_words.specs.declared.jobs.Job.{Job};
+ghost use Rattle.gp_words.specs.Read.{Read as Reading};
 ghost use Rattle.gp_top.specs.Exit.{exit_memory};
 ghost use Rattle.gp_top.specs.Task.{generated_task};
 ghost use Rattle.gp_top.specs.Top.{AskForGenerated, EndsWithoutReport};
@@ -55,8 +57,8 @@ pub(crate) fn generate<K: Store, O: Sink>(
     ensures run { IfSome result.report (CameTo (generated_task n q settings.now)
         (K.files store.old, K.asked store.old, K.faults store.old) (K.files store.new, K.asked store.new, K.faults store.new)
         (O.written out.old, O.faults out.old) (O.written out.new, O.faults out.new) result.status) }
-    ensures no_report { result.report ≡ None → (words : List (List ℕ)) (held : Option (List ℕ)) → AskForGenerated words n q
-        → EndsWithoutReport words held
+    ensures no_report { result.report ≡ None → (asked : Reading Job) (held : Option (List ℕ)) → AskForGenerated asked n q
+        → EndsWithoutReport asked held
         (K.files store.old, K.asked store.old, K.faults store.old) (K.files store.new, K.asked store.new, K.faults store.new)
         (O.written out.old, O.faults out.old) (O.written out.new, O.faults out.new) result.status }
     ensures memory { result.status ≡ exit_memory → out.new ≡ out.old }

@@ -1,26 +1,38 @@
-ghost use Rattle.std.specs.Prelude.{◌≡◌, ◌<◌, ◌^◌, IfOk, map};
-ghost use Rattle.gp_journal.specs.declared.goroutine.Worker.{Worker};
-ghost use Rattle.gp_machine.specs.Settings.{AreInRange};
-ghost use Rattle.gp_machine.specs.State.{code_of};
-ghost use Rattle.gp_machine.specs.Run.{state_of, IsFinished};
-ghost use Rattle.gp_sim.specs.Choice.{sim_journal, sim_records};
-ghost use Rattle.gp_sim.specs.ChoiceLaw.{BeginWithHead};
+ghost use Rattle.std.specs.Prelude.{◌≡◌, ◌<◌, ◌^◌, IfOk};
+ghost use Rattle.gp_journal.specs.Settings.{AreInRange};
+ghost use Rattle.gp_journal.specs.State.{code_of};
+ghost use Rattle.gp_journal.specs.Run.{state_of, IsFinished};
 ghost use Rattle.gp_journal.specs.Profiles.{records_of};
+ghost use Rattle.gp_journal.specs.Told.{done_of, made_of};
+ghost use Rattle.gp_events.specs.Sums.{sums};
+ghost use Rattle.gp_history.specs.Events.{block_events, mutex_events};
 ghost use Rattle.gp_ring.specs.Records.{Covers};
 ghost use Rattle.gp_cpu.specs.Samples.{samples_of_journal};
+ghost use Rattle.gp_samples.specs.RunRing.{BeginWithHead};
 ghost use Rattle.gp_top.specs.Report as definition;
-ghost use Rattle.gp_top.specs.Report.{AreMade, IsReport, ring_records};
+ghost use Rattle.gp_top.specs.Report.{IsReport, ring_records};
 ghost use Rattle.gp_top.specs.kept.Steps.{IsRan};
 
-use gp_cpu::CpuRecords;
-use gp_events::Sums;
+use gp_cpu::{Collector, CpuRecords};
+use gp_events::{Buckets, Sums};
 use gp_isa::{Memory, Program, Sequence};
-use gp_machine::{Counts, Entry, Machine, Refusals, Run, Settings};
+use gp_machine::{Counts, Entry, Machine, Refusals, Run};
 use gp_report::Report;
-use gp_sim::{Simulated, simulate};
 use gp_stack::Profiles;
 use std::alloc::Global;
-use std::marker::Brand;
+
+/// A run that is complete, whoever made it: its machine, the records of its profiles, the sums of its block and of its mutex
+/// events, what its reader took, the instructions of each worker, and the entries of each actor.
+#[derive(Drop)]
+pub(crate) struct Complete<R: Run> {
+    pub machine: Machine<R>,
+    pub records: Profiles,
+    pub block: Buckets,
+    pub mutex: Buckets,
+    pub cpu: Collector,
+    pub done: Counts,
+    pub made: Counts,
+}
 
 /// What is left of a run that is complete: its report, its clock, and the sums of its block and of its mutex events, in the
 /// order of a profile.
@@ -45,64 +57,26 @@ fn refusals(alloc: Global, journal: &[Entry]) -> Result<Refusals, Memory>
     Ok(Sequence::from_vec(refused))
 }
 
-// The instructions of each worker.
-fn instructions<R: Run>(
-    alloc: Global,
-    settings: &Settings,
-    machine: &Machine<R>,
-) -> Result<Counts, Memory>
-    requires settings { settings.now ≡ R.settings }
-    requires range { AreInRange settings.now }
-    ensures { IfOk result (λ done.
-        done ≡ map (λ (worker : Worker). worker.instructions) (state_of R.program R.settings machine.now).workers) }
-{
-    let _ = machine.journal();
-    let mut done = Vec::new(alloc);
-    for w in 0..settings.workers {
-        done.push(machine.done(w))?;
-    }
-    Ok(Sequence::from_vec(done))
-}
-
-// The entries of each actor, the profiler last.
-fn entries_made<R: Run>(
-    alloc: Global,
-    settings: &Settings,
-    machine: &Machine<R>,
-) -> Result<Counts, Memory>
-    requires settings { settings.now ≡ R.settings }
-    requires range { AreInRange settings.now }
-    ensures { IfOk result (AreMade R.settings machine.now) }
-{
-    let mut made = Vec::new(alloc);
-    for actor in 0..settings.workers + 1 {
-        made.push(machine.made(actor))?;
-    }
-    Ok(Sequence::from_vec(made))
-}
-
 // The report of a run that is complete.
-fn report_on<R: Run>(
+fn report_of<R: Run>(
     alloc: Global,
-    settings: &Settings,
     machine: Machine<R>,
     goroutine_records: Profiles,
     cpu_records: CpuRecords,
+    done: Counts,
+    made: Counts,
 ) -> Result<Report, Memory>
-    requires settings { settings.now ≡ R.settings }
-    requires range { AreInRange settings.now }
     requires finished { IsFinished (code_of R.program) R.settings machine }
-    requires chosen { machine ≡ sim_journal R.program R.settings }
     requires records { goroutine_records ≡ records_of (code_of R.program) R.settings machine }
     requires covered { Covers (ring_records cpu_records) (samples_of_journal (code_of R.program) R.settings machine) }
     requires begun { BeginWithHead R.program R.settings machine (ring_records cpu_records) }
-    requires read { ring_records cpu_records ≡ sim_records R.program R.settings }
+    requires done { done ≡ done_of (state_of R.program R.settings machine) }
+    requires made { made ≡ made_of R.settings machine }
     ensures report { IfOk result (IsReport R.program R.settings) }
     ensures journal { IfOk result (λ report. report.journal ≡ machine) }
+    ensures cpu { IfOk result (λ report. report.cpu_records ≡ cpu_records) }
 {
     let refused = refusals(alloc, machine.journal())?;
-    let done = instructions(alloc, settings, &machine)?;
-    let made = entries_made(alloc, settings, &machine)?;
     let ended = machine.ended();
     let born = machine.births();
     let live = machine.live();
@@ -130,34 +104,41 @@ fn clock<R: Run>(machine: &Machine<R>) -> u64
     machine.clock()
 }
 
-fn run_named<R: Run>(alloc: Global, program: &Program, settings: &Settings) -> Result<Ran, Memory>
+/// Reports on a run that is complete.
+pub(crate) fn report_on<R: Run>(
+    alloc: Global,
+    program: &Program,
+    complete: Complete<R>,
+) -> Result<Ran, Memory>
     requires program { program.now ≡ R.program }
-    requires settings { settings.now ≡ R.settings }
-    requires range { AreInRange settings.now }
-    ensures { IfOk result (IsRan R.program R.settings) }
+    requires range { AreInRange R.settings }
+    requires finished { IsFinished (code_of R.program) R.settings complete.machine }
+    requires records { complete.records ≡ records_of (code_of R.program) R.settings complete.machine }
+    requires block { complete.block ≡ sums (block_events (code_of R.program) R.settings complete.machine) }
+    requires mutex { complete.mutex ≡ sums (mutex_events (code_of R.program) R.settings complete.machine) }
+    requires covered { Covers (ring_records complete.cpu) (samples_of_journal (code_of R.program) R.settings complete.machine) }
+    requires begun { BeginWithHead R.program R.settings complete.machine (ring_records complete.cpu) }
+    requires done { complete.done ≡ done_of (state_of R.program R.settings complete.machine) }
+    requires made { complete.made ≡ made_of R.settings complete.machine }
+    ensures ran { IfOk result (IsRan R.program R.settings) }
+    ensures journal { IfOk result (λ ran. ran.report.journal ≡ complete.machine) }
+    ensures cpu { IfOk result (λ ran. ran.report.cpu_records ≡ complete.cpu) }
 {
-    let Simulated {
+    let Complete {
         machine,
         records,
         block,
         mutex,
         cpu,
-        ..
-    } = simulate::<R>(alloc, program, settings)?;
+        done,
+        made,
+    } = complete;
     let clock = clock(&machine);
-    let report = report_on(alloc, settings, machine, records, cpu.into_records())?;
+    let report = report_of(alloc, machine, records, cpu.into_records(), done, made)?;
     Ok(Ran {
         report,
         clock,
         block: block.sorted(alloc, program)?,
         mutex: mutex.sorted(alloc, program)?,
     })
-}
-
-/// Runs a program in the order that its options' numbers choose, to the end, and reports on it.
-pub(crate) fn run(alloc: Global, program: &Program, settings: &Settings) -> Result<Ran, Memory>
-    requires { AreInRange settings.now }
-    ensures { IfOk result (IsRan program.now settings.now) }
-{
-    run_named::<Brand>(alloc, program, settings)
 }

@@ -20,8 +20,9 @@ use Rattle.gp_wire.specs.declared.error.WireError.TheVariants as profile
 use Rattle.gp_journal.specs.declared.settings.Settings.{Settings}
 use Rattle.gp_journal.specs.Run.{state_of}
 use Rattle.gp_events.specs.Order.{sums_in_order}
-use Rattle.gp_words.specs.Read.{Names, Faults}
-use Rattle.gp_words.specs.declared.jobs.Job.TheVariants.{Sim, Dump}
+use Rattle.gp_words.specs.Read.{Read as Reading, Names, Faults}
+use Rattle.gp_words.specs.declared.jobs.Job.{Job}
+use Rattle.gp_words.specs.declared.jobs.Job.TheVariants.{Dump}
 use Rattle.gp_words.specs.declared.error.WordError.{WordError}
 use Rattle.gp_words.specs.declared.error.WordError.TheVariants as words
 use Rattle.gp_report.specs.declared.report.Report.{Report}
@@ -33,11 +34,11 @@ use Rattle.gp_top.specs.declared.report.Ran.{Ran}
 use Rattle.gp_top.specs.Exit.{exit_done, exit_usage, exit_refused, exit_read_fault}
 use Rattle.gp_isa.specs.Limits.{file_bytes}
 use Rattle.gp_top.specs.Status.{status_of}
-use Rattle.gp_top.specs.Report.{IsReport}
+use Rattle.gp_top.specs.Report.{IsReport, Order, IsInOrder}
 use Rattle.gp_top.specs.Files.{Output, block_sums, mutex_sums}
 use Rattle.gp_top.specs.Putting.{Told, FirstArePut, OneFails, Sunk}
 use Rattle.gp_top.specs.Task.{Task, task_files, task_summary}
-use Rattle.gp_top.specs.Asked.{asked_of, profile_bytes, IsTooLong, IsFaulty, IsFaultyProfile, IsProfile, IsReadTo}
+use Rattle.gp_top.specs.Asked.{file_job, profile_bytes, IsTooLong, IsFaulty, IsFaultyProfile, IsProfile, IsReadTo}
 use Rattle.gp_top.specs.Top.{ComesTo, IsTold}
 
 -- what stops a job by each cause of words, of a failed read, of a refused text and of a refused profile
@@ -59,13 +60,13 @@ stop_of_profile (profile.Refused at cause) = stop.Fault (At at (wire.number_of c
 stop_of_profile profile.Memory = stop.Memory
 
 -- What stops a job at its words.
-abbrev pub WordsStop : List (List ℕ) → Stop → Type 0
-WordsStop words (stop.Fault (Usage place cause)) = asked_of words ≡ Faults place cause
-WordsStop words (stop.Fault (Line line number)) = ⊥
-WordsStop words (stop.Fault (At at cause)) = ⊥
-WordsStop words (stop.Fault Long) = ⊥
-WordsStop words (stop.Fault Read) = ⊥
-WordsStop words stop.Memory = Unit {0}
+abbrev pub WordsStop : Reading Job → Stop → Type 0
+WordsStop asked (stop.Fault (Usage place cause)) = asked ≡ Faults place cause
+WordsStop asked (stop.Fault (Line line number)) = ⊥
+WordsStop asked (stop.Fault (At at cause)) = ⊥
+WordsStop asked (stop.Fault Long) = ⊥
+WordsStop asked (stop.Fault Read) = ⊥
+WordsStop asked stop.Memory = Unit {0}
 
 -- The source was read to its end, or to one byte past a limit, and no read failed.
 abbrev pub IsReadWell : {S : Type 0} → (S → Option (List ℕ)) → (S → ℕ) → ℕ → S → S → Type 0
@@ -103,34 +104,34 @@ abbrev pub ProfileStops : {S : Type 0} → (S → Option (List ℕ)) → (S → 
 ProfileStops left faults old new (stop.Fault what) = ProfileTells left faults old new what
 ProfileStops left faults old new stop.Memory = Unit {0}
 
--- The words ask for a simulated run, or for the text of a profile.
-abbrev pub AskForRun : List (List ℕ) → Type 0
-AskForRun words = (file : List ℕ) × (settings : Settings) × (asked_of words ≡ Names (Sim file settings))
+-- The words ask for a run of a file's program, or for the text of a profile.
+abbrev pub AskForRun : Reading Job → Type 0
+AskForRun asked = (order : Order) × (file : List ℕ) × (settings : Settings) × (asked ≡ Names (file_job order file settings))
 
-abbrev pub AskForText : List (List ℕ) → Type 0
-AskForText words = (file : List ℕ) × (asked_of words ≡ Names (Dump file))
+abbrev pub AskForText : Reading Job → Type 0
+AskForText asked = (file : List ℕ) × (asked ≡ Names (Dump file))
 
 -- The words ask for something that is read.
-abbrev pub AskToRead : List (List ℕ) → Type 0
-AskToRead words = AskForRun words ⊎ AskForText words
+abbrev pub AskToRead : Reading Job → Type 0
+AskToRead asked = AskForRun asked ⊎ AskForText asked
 
 -- It held more bytes than what the words ask for may have.
-abbrev pub HeldTooMuch : {S : Type 0} → (S → Option (List ℕ)) → (S → ℕ) → List (List ℕ) → S → S → Type 0
-HeldTooMuch left faults words old new =
-    (AskForRun words × HeldMore left faults file_bytes old new) ⊎ (AskForText words × HeldMore left faults profile_bytes old new)
+abbrev pub HeldTooMuch : {S : Type 0} → (S → Option (List ℕ)) → (S → ℕ) → Reading Job → S → S → Type 0
+HeldTooMuch left faults asked old new =
+    (AskForRun asked × HeldMore left faults file_bytes old new) ⊎ (AskForText asked × HeldMore left faults profile_bytes old new)
 
 -- What a fault tells of the words, and of the source before and after.
-abbrev pub FaultTells : {S : Type 0} → (S → Option (List ℕ)) → (S → ℕ) → List (List ℕ) → S → S → Fault → Type 0
-FaultTells left faults words old new (Usage place cause) = (asked_of words ≡ Faults place cause) × (new ≡ old)
-FaultTells left faults words old new (Line line number) = AskForRun words × SourceTells left faults old new (Line line number)
-FaultTells left faults words old new (At at number) = AskForText words × ProfileTells left faults old new (At at number)
-FaultTells left faults words old new Long = HeldTooMuch left faults words old new
-FaultTells left faults words old new Read = AskToRead words × Rose (faults old) (faults new)
+abbrev pub FaultTells : {S : Type 0} → (S → Option (List ℕ)) → (S → ℕ) → Reading Job → S → S → Fault → Type 0
+FaultTells left faults asked old new (Usage place cause) = (asked ≡ Faults place cause) × (new ≡ old)
+FaultTells left faults asked old new (Line line number) = AskForRun asked × SourceTells left faults old new (Line line number)
+FaultTells left faults asked old new (At at number) = AskForText asked × ProfileTells left faults old new (At at number)
+FaultTells left faults asked old new Long = HeldTooMuch left faults asked old new
+FaultTells left faults asked old new Read = AskToRead asked × Rose (faults old) (faults new)
 
 -- And what stops a job.
-abbrev pub RunStops : {S : Type 0} → (S → Option (List ℕ)) → (S → ℕ) → List (List ℕ) → S → S → Stop → Type 0
-RunStops left faults words old new (stop.Fault what) = FaultTells left faults words old new what
-RunStops left faults words old new stop.Memory = Unit {0}
+abbrev pub RunStops : {S : Type 0} → (S → Option (List ℕ)) → (S → ℕ) → Reading Job → S → S → Stop → Type 0
+RunStops left faults asked old new (stop.Fault what) = FaultTells left faults asked old new what
+RunStops left faults asked old new stop.Memory = Unit {0}
 
 -- A status behind a run or a text: none of those of a refusal.
 abbrev pub IsAfterRun : ℕ → Type 0
@@ -141,7 +142,7 @@ abbrev pub SaveStops : List Output → Told → Told → SaveError → Type 0
 SaveStops outputs before after save.PutFault = OneFails outputs before after
 SaveStops outputs before after save.Memory = FirstArePut outputs before after
 
--- What is left of a run: its report, its clock, and the sums of its events in a profile's order.
+-- What is left of a run, whoever made it: its report, its clock, and the sums of its events in a profile's order.
 pub record IsRan (program : Parts) (settings : Settings) (ran : Ran) : Type 0 where
   pub reported : IsReport program settings ran.report
   pub clock_is : ran.clock ≡ (state_of program settings ran.report.journal).clock
@@ -158,5 +159,6 @@ pub record IsDump (held : Option (List ℕ)) (before after : Sunk) (status : ℕ
 -- What a task that was run comes to.
 pub record CameTo (task : Task) (before after : Told) (sink_before sink_after : Sunk) (status : ℕ) (report : Report) : Type 0 where
   pub reported : IsReport task.program task.settings report
+  pub in_order : IsInOrder task.order task.program task.settings report
   pub comes_to :
       ComesTo (task_files task report) (task_summary task report) (status_of report) before after sink_before sink_after status

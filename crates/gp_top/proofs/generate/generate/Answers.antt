@@ -16,7 +16,7 @@ returns-in-Ok-put_text-clause-run g c =
     c.run_whole.result.status c.in-Ok.made.program c.as_bytes.result.now c.run_whole.result.report c.in-Ok.ensures.program (c.as_bytes.ensures ∙ c.in-Ok.ensures.text) c.in-Ok-put_text.ensures.put c.run_whole.ensures.run
 
 pub returns-in-Ok-put_text-clause-no_report : goal.returns-in-Ok-put_text-clause-no_report
-returns-in-Ok-put_text-clause-no_report g c = λ none words held ask.
+returns-in-Ok-put_text-clause-no_report g c = λ none asked held ask.
     let before : Told = (g.K.Store.files c.args.store.now, g.K.Store.asked c.args.store.now, g.K.Store.faults c.args.store.now) in
     let nine = c.run_whole.ensures.no_report none in
     let text = c.as_bytes.ensures ∙ c.in-Ok.ensures.text in
@@ -27,7 +27,7 @@ returns-in-Ok-put_text-clause-no_report g c = λ none words held ask.
     (ap (λ out. (g.O.Sink.written out, g.O.Sink.faults out)) (c.run_whole.ensures.memory nine))
 
 pub returns-clause-no_report : goal.returns-clause-no_report
-returns-clause-no_report g c = λ none words held ask.
+returns-clause-no_report g c = λ none asked held ask.
     let before : Told = (g.K.Store.files c.args.store.now, g.K.Store.asked c.args.store.now, g.K.Store.faults c.args.store.now) in
     let after : Told = (g.K.Store.files c.put_text.new.store, g.K.Store.asked c.put_text.new.store, g.K.Store.faults c.put_text.new.store) in
     ProgramFails c.args.n c.args.q ask c.without_report-in-Err.ensures.status

@@ -1,23 +1,18 @@
-use Rattle.std.proofs.Common.{ap, ◌∙◌}
-use Rattle.gp_machine.specs.State.{code_of}
-use Rattle.gp_journal.proofs.Lemmas.{records_are_frozen}
-use Rattle.gp_top.specs.Report.{refusals as refused_of}
-use Rattle.gp_top.proofs.Reporting.{are_recorded}
+use Rattle.gp_history.specs.Events.{block_events, mutex_events}
+use Rattle.gp_top.proofs.Reporting.{ordered_sums, journal_clock}
 use Rattle.gp_top.proofs.report.report_on.Goals as goal
 
-pub returns-clause-report : goal.returns-clause-report
-returns-clause-report g c = rw (c.into_journal.ensures.journal) (record {
-  finished = c.requires.finished;
-  recorded = rw c.requires.records (are_recorded (code_of g.R.Run.program) g.R.Run.settings c.args.machine);
-  frozen = rw c.requires.records (records_are_frozen (code_of g.R.Run.program) g.R.Run.settings c.args.machine c.requires.finished.legal c.requires.finished.complete.none_active);
-  covered = c.requires.covered;
-  begun = c.requires.begun;
-  refused_are = c.in_ok-refused.ensures ∙ ap refused_of c.journal.ensures.journal;
-  done_are = c.in_ok-done.ensures;
-  made_are = c.in_ok-made.ensures;
-  ended_is = c.ended-ended.ensures;
-  born_are = c.births-born.ensures;
-  live_are = c.live-live.ensures;
-  chosen = c.requires.chosen;
-  read = c.requires.read;
-})
+pub returns-clause-ran : goal.returns-clause-ran
+returns-clause-ran g c =
+    let program = g.R.Run.program in
+    let settings = g.R.Run.settings in
+    let journal = c.in_ok-report.report.journal in
+    let made = c.args.complete in
+    let is = c.in_ok-report.ensures.journal in
+    record {
+      reported = c.in_ok-report.ensures.report;
+      clock_is = journal_clock program c.args.program.now settings made.machine journal c.requires.program is c.clock-clock.result c.clock-clock.ensures.clock;
+      clock_fits = c.clock-clock.ensures.fits;
+      block_are = ordered_sums program c.args.program.now settings made.machine journal c.requires.program is block_events made.block c.in_ok-sorted.field-0 c.in_ok-sorted.ensures c.requires.block;
+      mutex_are = ordered_sums program c.args.program.now settings made.machine journal c.requires.program is mutex_events made.mutex c.in_ok-sorted-2.field-0 c.in_ok-sorted-2.ensures c.requires.mutex;
+    }

@@ -3,7 +3,7 @@ use Rattle.std.proofs.Common.{◌≡◌, ◌≤◌, take, map}
 use Rattle.gp_journal.specs.declared.goroutine.Worker.{Worker}
 use Rattle.gp_machine.specs.State.{code_of}
 use Rattle.gp_machine.specs.Run.{last}
-use Rattle.gp_top.proofs.report.instructions.Given as goal
+use Rattle.gp_top.proofs.by_numbers.instructions.Given as goal
 
 abbrev pub invariant-loop-w : goal.invariant-loop-w
 invariant-loop-w g l = record {

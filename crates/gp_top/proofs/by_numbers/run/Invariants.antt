@@ -1,5 +1,5 @@
 -- The run that is made is that of the program and the options.
-use Rattle.gp_top.proofs.report.run.Given as goal
+use Rattle.gp_top.proofs.by_numbers.run.Given as goal
 
 abbrev pub ghosts-run_named : goal.ghosts-run_named
 ghosts-run_named a = record { program = a.program.now; settings = a.settings.now }

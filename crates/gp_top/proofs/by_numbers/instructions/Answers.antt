@@ -2,7 +2,7 @@ use Rattle.std.proofs.Common.{arith}
 use Rattle.gp_machine.specs.State.{code_of}
 use Rattle.gp_machine.specs.Run.{last}
 use Rattle.gp_top.proofs.Reporting.{number_of_workers, done_more, all_done}
-use Rattle.gp_top.proofs.report.instructions.Goals as goal
+use Rattle.gp_top.proofs.by_numbers.instructions.Goals as goal
 
 pub loop-w-preserved : goal.loop-w-preserved
 loop-w-preserved g c =
