@@ -1,9 +1,20 @@
 use crate::error::Unanswered;
+use gp_isa::Sequence;
 use std::alloc::Global;
 
 /// The first word of a row, and what stands behind the blank after it.
 pub fn word(row: &str) -> (&str, &str) {
     row.split_once(' ').unwrap_or((row, ""))
+}
+
+/// The words of a command line, behind the program's name. `''` stands for a word that is empty.
+pub fn command_words(alloc: Global, line: &str) -> Result<Vec<String>, Unanswered> {
+    let mut all = Vec::new(alloc);
+    for word in words(alloc, line)?.iter().skip(1) {
+        let word = if *word == "''" { "" } else { *word };
+        all.push(word.to_string(alloc)?)?;
+    }
+    Ok(all)
 }
 
 /// What stands on both sides of the first such character.
@@ -43,6 +54,15 @@ pub fn number_64(word: &str) -> Result<u64, Unanswered> {
 /// A number of 64 bits with a sign.
 pub fn integer(word: &str) -> Result<i64, Unanswered> {
     Ok(word.parse()?)
+}
+
+/// Numbers of 64 bits with signs, with blanks between them.
+pub fn integers(alloc: Global, row: &str) -> Result<Sequence<i64>, Unanswered> {
+    let mut numbers = Sequence::new(alloc);
+    for word in words(alloc, row)? {
+        numbers.push(integer(word)?)?;
+    }
+    Ok(numbers)
 }
 
 /// Bytes in hexadecimal digits.
