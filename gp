@@ -2,20 +2,28 @@
 # gp WORDS..: runs the proved program with these words, in the folder of whoever calls.
 #
 # A copy of the program stands in out/ beside this script, with a checksum of all that it was made from. Where the
-# checksum is no longer that of the sources, the program is proved and built anew, in a folder of its own, so that neither
+# checksum is no longer that of the sources, the program is proved and built anew, of copies in out/build, so that neither
 # a running gate nor an edit meanwhile comes in between. Crates that don't stand on each other are built side by side, as
-# many at once as processors and memory allow. Where this script is ended, it ends what it started. With GP_GATE=passed the
-# program that `rt ci` left is run as it is, and nothing is kept: .ci/run says so, right after the gate.
+# many at once as processors and memory allow. Where this script is ended, it ends what it started; what was built by then
+# stays, and the next call goes on from there. With GP_GATE=passed the program that `rt ci` left is run as it is, and
+# nothing is kept: .ci/run says so, right after the gate.
 #
 # What the program writes and its exit status are handed on untouched. For people there is a page of help, and on a terminal a
 # line in plain words behind a refusal; both are made of the tables of docs/COMMANDS.md, and go to the standard error.
+case ${BASH_VERSION:-none}:${BASH##*/} in
+  none:* | *:sh | [123].* | 4.[0-3].*)
+    echo "gp: this is a script for bash, 4.4 or later: call it as ./gp or as bash gp" >&2
+    exit 125
+    ;;
+esac
 set -u -o pipefail
 top=$(dirname -- "$(readlink -f -- "${BASH_SOURCE[0]}")")
 kept=$top/out
-room=
+build=$kept/build
+is_building=
 waiting=
 failed=
-declare -A groups=() built=()
+declare -A groups=() built=() sums=()
 
 tell() { printf 'gp: %s\n' "$*" >&2; }
 
@@ -43,16 +51,23 @@ crates_of() {
         print line } }' "$1/crates.txt"
 }
 
-# The checksum of the kit and of all that the program is made from. What checks leave (out/) doesn't count.
+# The checksum of the kit and of these folders and files of a repository. What checks leave (out/) doesn't count.
+sum_in() {
+  local where=$1
+  shift
+  (
+    cd -- "$where" || exit
+    printf '%s\n' "$kit"
+    find "$@" -name out -prune -o -type f -print0 | LC_ALL=C sort -z | xargs -0 sha256sum --
+  ) | sha256sum
+}
+
+# The checksum of the kit and of all that the program is made from.
 sum_of() {
   local crates
   crates=$(crates_of "$1" | awk '{ print "crates/" $1 }') || return
-  (
-    cd -- "$1" || exit
-    printf '%s\n' "$kit"
-    # (no name of a crate has a blank)
-    { printf '%s\0' crates.txt HANDLES && find $crates -name out -prune -o -type f -print0; } | LC_ALL=C sort -z | xargs -0 sha256sum --
-  ) | sha256sum
+  # (no name of a crate has a blank)
+  sum_in "$1" crates.txt HANDLES $crates
 }
 
 # Whether the copy that is kept was made from sources with this checksum.
@@ -72,16 +87,30 @@ start() {
   local name=$1
   shift
   set -m
-  { "$@"; printf '%s\n' "$?" >"$room/ends.$name" && mv -- "$room/ends.$name" "$room/ended.$name"; } >"$room/log.$name" 2>&1 </dev/null 9>&- &
+  { "$@"; printf '%s\n' "$?" >"$build/ends.$name" && mv -- "$build/ends.$name" "$build/ended.$name"; } >"$build/log.$name" 2>&1 </dev/null 9>&- &
   groups[$name]=$!
   set +m
 }
 
-# Ends what was started and still runs.
-end_all() {
+# Whether one of those that were started has a process left.
+is_one_left() {
   local name
+  for name in "${!groups[@]}"; do kill -0 -- "-${groups[$name]}" 2>/dev/null && return; done
+  return 1
+}
+
+# Ends what was started and still runs, by force where it takes more than ten seconds.
+end_all() {
+  local name tenths=0
   for name in "${!groups[@]}"; do kill -TERM -- "-${groups[$name]}" 2>/dev/null; done
-  for name in "${!groups[@]}"; do wait "${groups[$name]}" 2>/dev/null; done
+  while is_one_left && [ "$tenths" -lt 100 ]; do
+    sleep 0.1
+    tenths=$((tenths + 1))
+  done
+  for name in "${!groups[@]}"; do
+    kill -KILL -- "-${groups[$name]}" 2>/dev/null
+    wait "${groups[$name]}" 2>/dev/null
+  done
   groups=()
 }
 
@@ -90,10 +119,10 @@ wait_for_one() {
   local name
   wait -n 2>/dev/null
   for name in "${!groups[@]}"; do
-    [ ! -e "$room/ended.$name" ] && kill -0 "${groups[$name]}" 2>/dev/null && continue
+    [ ! -e "$build/ended.$name" ] && kill -0 "${groups[$name]}" 2>/dev/null && continue
     wait "${groups[$name]}" 2>/dev/null
     unset "groups[$name]"
-    if [ "$(cat -- "$room/ended.$name" 2>/dev/null)" != 0 ]; then
+    if [ "$(cat -- "$build/ended.$name" 2>/dev/null)" != 0 ]; then
       failed=$name
       return 1
     fi
@@ -101,9 +130,21 @@ wait_for_one() {
   done
 }
 
+# What has failed of a crate, in words.
+failure_of() {
+  local step status
+  step=$(cat -- "$build/step.$1" 2>/dev/null) || step='its build'
+  status=$(cat -- "$build/ended.$1" 2>/dev/null) || status=
+  case $status in
+    '') printf '%s was ended' "$step" ;;
+    137) printf '%s was killed; memory may have been short' "$step" ;;
+    *) printf '%s failed with status %s' "$step" "$status" ;;
+  esac
+}
+
 # What rt ci passed of the very same sources it takes from the kit by checksums, and runs their tests again.
 ask_gate() {
-  cd -- "$room/repo" && timeout --foreground 240 rt ci
+  cd -- "$build/repo" && timeout --foreground 240 rt ci
 }
 
 # Copies what the program is made from, without what checks leave, into a folder that isn't there yet; rt wants a .git there.
@@ -112,19 +153,37 @@ copy_sources() {
 }
 
 # Proves a crate with so many jobs, and builds its library or the program. The kit keeps others out of the folders of a crate
-# and of those below it while it works, so each crate is built in copies of its own, and what it leaves goes back.
+# and of those below it while it works, so each crate is built in copies of its own, and what it leaves goes to where the others
+# find it. (A library is never written to, so links do.) What goes on is told in a file, for the case that it fails.
 make() {
-  local name=$1 jobs=$2 own=$room/own.$1 one
-  copy_sources "$room/repo" "$own" || return
-  for one in "${!built[@]}"; do cp -a -- "$room/out/$one" "$own/crates/$one/out" || return; done
+  local name=$1 jobs=$2 own=$build/own.$1 one status
+  step() { printf '%s\n' "$*" >"$build/step.$name"; }
+  step 'copying the sources'
+  copy_sources "$build/repo" "$own" || return
+  mkdir -- "$own/crates/$name/out" || return
+  [ ! -d "$build/begun/$name" ] || mv -- "$build/begun/$name" "$own/crates/$name/out/incremental" || return
+  step 'copying the libraries below it'
+  for one in "${!built[@]}"; do
+    mkdir -p -- "$own/crates/$one/out" || return
+    cp -al -- "$build/libs/$one/rlib" "$own/crates/$one/out/" || cp -a -- "$build/libs/$one/rlib" "$own/crates/$one/out/" || return
+  done
   cd -- "$own/crates/$name" || return
   if [ "$name" = gp_prog ]; then
     # (without words it reads nothing, writes its refusal, and ends with status 1)
+    step 'rt run'
     rt run --jobs "$jobs"
-    mv -- out/gp_prog "$room/gp"
+    status=$?
+    [ -e out/gp_prog ] || return $((status > 0 ? status : 1))
+    step 'keeping the program'
+    mv -- out/gp_prog "$build/gp" || return
   else
-    rt lib --jobs "$jobs" && mkdir -p -- "$room/out/$name" && mv -- out/rlib "$room/out/$name/rlib"
+    step 'rt lib'
+    rt lib --jobs "$jobs" || return
+    step 'keeping its library'
+    rm -rf -- "$build/libs/$name" && mkdir -p -- "$build/libs/$name" && mv -- out/rlib "$build/libs/$name/rlib" &&
+      printf '%s\n' "${sums[$name]}" >"$build/libs/$name/sum" || return
   fi
+  rm -rf -- "$own"
 }
 
 # Whether each of these crates is built.
@@ -133,21 +192,37 @@ are_built() {
   for name in "$@"; do [ -n "${built[$name]:-}" ] || return; done
 }
 
-# Proves and builds the crates in $room/repo, each once, when those are built that it stands on. Those that can begin at once
+# Finds the libraries of an earlier call that were made from just these sources: of crates as `crates_of` gives them.
+find_built() {
+  local name below one
+  while read -r name below; do
+    sums[$name]=$(
+      for one in $below; do printf '%s\n' "${sums[$one]}"; done
+      sum_in "$build/repo" crates.txt HANDLES "crates/$name"
+    ) || return
+    [ "$(cat -- "$build/libs/$name/sum" 2>/dev/null)" = "${sums[$name]}" ] && built[$name]=1
+  done
+  return 0
+}
+
+# Proves and builds the crates in $build/repo, each once, when those are built that it stands on. Those that can begin at once
 # share the processors that are free.
 build_all() {
-  local crates name below most count at=0 free left share
+  local crates name below most count at free left share
   local -A begun=() jobs=()
   local ready=()
-  crates=$(crates_of "$room/repo") || stop "cannot read crates.txt"
+  crates=$(crates_of "$build/repo") || stop "cannot read crates.txt"
+  find_built <<<"$crates" || stop "cannot read the sources that were copied to $build"
   count=$(wc -l <<<"$crates")
   most=$(at_once)
-  tell "proving and building the program, $most crates at once; this is done once, and takes some minutes"
+  at=${#built[@]}
+  tell "proving and building the program, $most crates at once; this is done once, and takes a while"
+  [ "$at" = 0 ] || tell "$at of $count crates are built already, and it goes on from there"
   while :; do
     free=$most ready=()
     for name in "${!groups[@]}"; do free=$((free - jobs[$name])); done
     while read -r name below; do
-      [ -z "${begun[$name]:-}" ] && are_built $below && ready+=("$name")
+      [ -z "${begun[$name]:-}${built[$name]:-}" ] && are_built $below && ready+=("$name")
     done <<<"$crates"
     left=${#ready[@]}
     for name in "${ready[@]}"; do
@@ -164,6 +239,17 @@ build_all() {
   done
 }
 
+# Leaves of a build that isn't done the libraries, and what the kit kept of each crate that it was at.
+set_aside() {
+  local one name
+  for one in "$build"/own.*; do
+    name=${one##*/own.}
+    [ -d "$one/crates/$name/out/incremental" ] && mkdir -p -- "$build/begun" && rm -rf -- "$build/begun/$name" &&
+      mv -- "$one/crates/$name/out/incremental" "$build/begun/$name"
+  done 2>/dev/null
+  rm -rf -- "$build"/{own,log,step,ends,ended}.* "$build/repo" "$build/gp"
+}
+
 # Gives the launcher a program of its own, made from sources with this checksum.
 take() {
   cp -- "$1" "$kept/gp.$$" && chmod 755 "$kept/gp.$$" && rm -f -- "$kept/gp.sum" || stop "cannot write $kept"
@@ -173,31 +259,38 @@ take() {
 # Proves and builds the program from a copy of the sources. Where a gate left a program here, rt ci is asked first.
 prepare() {
   local sum
-  room=$(mktemp -d) || stop "no temporary folder"
-  copy_sources "$top" "$room/repo" || stop "cannot copy the sources to $room"
-  sum=$(sum_of "$room/repo") || stop "cannot read the sources that were copied to $room"
+  is_building=1
+  mkdir -p -- "$build" && set_aside || stop "cannot write $build"
+  copy_sources "$top" "$build/repo" || stop "cannot copy the sources to $build"
+  sum=$(sum_of "$build/repo") || stop "cannot read the sources that were copied to $build"
   if [ -e "$top/crates/gp_prog/out/gp_prog.by-rattle" ]; then
     tell "asking rt ci for what it proved of these sources; this is done once"
     start gate ask_gate
     wait_for_one || end_all
   fi
   if [ -n "${built[gate]:-}" ]; then
-    mv -- "$room/repo/crates/gp_prog/out/gp_prog" "$room/gp"
+    mv -- "$build/repo/crates/gp_prog/out/gp_prog" "$build/gp"
   elif ! build_all; then
     end_all
-    tail -n 20 -- "$room/log.$failed" >&2
-    stop "the program could not be proved and built: the kit refused the crate $failed, or stopped"
+    tail -n 20 -- "$build/log.$failed" >&2
+    cp -- "$build/log.$failed" "$kept/gp.log" && tell "all that was said stands in $kept/gp.log"
+    stop "the program could not be proved and built: of crate $failed, $(failure_of "$failed")"
   fi
-  [ -e "$room/gp" ] || stop "the kit left no program"
-  take "$room/gp" "$sum"
+  [ -e "$build/gp" ] || stop "the kit left no program"
+  take "$build/gp" "$sum"
+  rm -rf -- "$build"
+  is_building=
 }
 
-# Ends what was started, and leaves nothing behind.
+# Ends what was started, and leaves nothing behind but what is built.
 leave() {
   trap '' HUP INT TERM
   [ -z "$waiting" ] || kill "$waiting" 2>/dev/null
   end_all
-  [ -z "$room" ] || rm -rf -- "$room"
+  if [ -n "$is_building" ]; then
+    set_aside
+    rmdir -- "$build" 2>/dev/null || tell "what was built stays in $build, and the next call goes on from there"
+  fi
   rm -f -- "$kept/gp.$$" "$kept/gp.sum.$$"
 }
 
@@ -217,8 +310,11 @@ show_help() {
   cat <<'END'
 gp runs a program of a small goroutine machine, and writes profiles of it that pprof opens. What they show is proved.
 
-  gp sim FILE [options]      runs FILE in an order that numbers choose
+  gp run FILE [options]      runs FILE on threads
+  gp sim FILE [options]      runs FILE in an order that numbers choose, the same each time
+  gp gen N Q [options]       makes a program by rules, as gen.gp, and does the same with it
   gp dump PROFILE            prints what a profile of pprof's format means
+  gp --version               prints the program's checksum, and the line of the kit
   gp --help                  prints this page
 
 options, each a word and its value (where it isn't given: the value in brackets):
@@ -257,6 +353,18 @@ in_plain_words() {
   [ -z "$what" ] || printf '%s: %s\n' "$place" "$what" >&2
 }
 
+# Which program it is, by its checksum, and the kit: for people and for tools.
+show_version() {
+  local sum
+  if [ -x "$1" ]; then
+    sum=$(sha256sum -- "$1") || stop "cannot read $1"
+    printf 'program %s\nchecksum %s\n' "$1" "${sum%% *}"
+  else
+    printf 'program none: it is not built yet of these sources\n'
+  fi
+  printf 'kit %s\n' "$2"
+}
+
 # Runs a program in place of this script. On a terminal its first line is kept, to be told in plain words where it refuses.
 launch() {
   local program=$1 said status
@@ -273,21 +381,32 @@ launch() {
   exit "$status"
 }
 
+asks_version=
 if [ $# = 0 ]; then
   show_help >&2
 elif [ $# = 1 ]; then
-  case $1 in --help | -h | help)
-    show_help >&2
-    exit
-    ;;
+  case $1 in
+    --help | -h | help)
+      show_help >&2
+      exit
+      ;;
+    --version) asks_version=1 ;;
   esac
 fi
 if [ "${GP_GATE:-}" = passed ] && [ -x "$top/crates/gp_prog/out/gp_prog" ]; then
+  [ -z "$asks_version" ] || {
+    show_version "$top/crates/gp_prog/out/gp_prog" "$(rt version 2>/dev/null || echo none)"
+    exit
+  }
   launch "$top/crates/gp_prog/out/gp_prog" "$@"
 fi
 command -v rt >/dev/null || stop "the Rattle kit's command rt isn't there"
-kit=$(rt version 2>&1) || stop "rt version failed: $kit"
+kit=$(rt version 2>&1) || stop "rt version failed with status $?: $kit"
 sum=$(sum_of "$top") || stop "cannot read the sources"
+if [ -n "$asks_version" ]; then
+  if is_kept "$sum"; then show_version "$kept/gp" "$kit"; else show_version '' "$kit"; fi
+  exit
+fi
 if ! is_kept "$sum"; then
   mkdir -p -- "$kept" && : >>"$kept/gp.lock" && exec 9>>"$kept/gp.lock" || stop "cannot write $kept"
   trap leave EXIT

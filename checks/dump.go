@@ -4,7 +4,8 @@
 //	dump make                 puts goroutine.pb, heap.pb, cpu.pb, block.pb and mutex.pb of this program, without compression
 //	dump lines <RAW           the lines of a profile by what `go tool pprof -raw` prints of it, but for the duration, which pprof rounds,
 //	                          and with the labels of a sample by their bytes, since pprof sorts them
-//	dump plain <LINES         the same of lines that `gp dump` wrote
+//	dump plain FILE <LINES    the same of lines that `gp dump` wrote of FILE: as many samples as the file holds, and those with equal
+//	                          frames and labels made one, as pprof does
 //	dump change GP FILE N     changes one byte of FILE, N times, and dumps what comes out: each dump ends with status 0 or 2 within
 //	                          a second, and on 2 writes one line
 package main
@@ -14,6 +15,7 @@ import (
 	"bytes"
 	"compress/gzip"
 	"context"
+	"encoding/binary"
 	"errors"
 	"fmt"
 	"io"
@@ -210,16 +212,79 @@ func lines(raw io.Reader) {
 			}
 		}
 	}
+	var held samples
 	for i := range values {
-		fmt.Fprint(out, "sample ", values[i], " |")
+		shown := " |"
 		for _, id := range ids[i] {
 			for _, frame := range frames[id] {
-				fmt.Fprint(out, " ", frame)
+				shown += " " + frame
 			}
 		}
-		fmt.Fprintln(out, " |"+together(labels[i]))
+		held.add(strings.Fields(values[i]), shown+" |"+together(labels[i]))
 	}
+	held.write(out)
 	fatal(out.Flush())
+}
+
+// Samples in the order in which each stack with its labels first comes, the values of equal ones added up: pprof makes those with
+// the same locations one, and addresses aren't told in a dump, so those with the same frames are made one on both sides.
+type samples struct {
+	order []string
+	sums  map[string][]int64
+}
+
+func (held *samples) add(values []string, shown string) {
+	if held.sums == nil {
+		held.sums = map[string][]int64{}
+	}
+	sum, there := held.sums[shown]
+	if !there {
+		held.order = append(held.order, shown)
+		sum = make([]int64, len(values))
+	}
+	for i, text := range values {
+		value, err := strconv.ParseInt(text, 10, 64)
+		fatal(err)
+		sum[i] += value
+	}
+	held.sums[shown] = sum
+}
+
+func (held *samples) write(out io.Writer) {
+	for _, shown := range held.order {
+		fmt.Fprint(out, "sample")
+		for _, value := range held.sums[shown] {
+			fmt.Fprint(out, " ", value)
+		}
+		fmt.Fprintln(out, shown)
+	}
+}
+
+// How many samples the bytes of a profile hold: the messages of field 2.
+func count(profile []byte) int {
+	next := func() uint64 {
+		value, size := binary.Uvarint(profile)
+		if size <= 0 {
+			fatal(errors.New("a number is cut off"))
+		}
+		profile = profile[size:]
+		return value
+	}
+	found := 0
+	for len(profile) > 0 {
+		switch tag := next(); tag & 7 {
+		case 0:
+			next()
+		case 2:
+			profile = profile[next():]
+			if tag>>3 == 2 {
+				found++
+			}
+		default:
+			fatal(fmt.Errorf("field %d", tag))
+		}
+	}
+	return found
 }
 
 func kinds(text, between string) string {
@@ -254,23 +319,38 @@ func together(labels []string) string {
 }
 
 // The lines of a dump without its duration, the labels of each sample sorted.
-func plain(dumped io.Reader) {
+func plain(dumped io.Reader, file string) {
 	in := bufio.NewScanner(dumped)
 	in.Buffer(nil, 1<<26)
 	out := bufio.NewWriter(os.Stdout)
+	var held samples
+	told := 0
 	for in.Scan() {
 		line := in.Text()
-		// (pprof passes over a sample whose values are all 0)
-		if strings.HasPrefix(line, "duration ") || nothing.MatchString(line) {
+		if strings.HasPrefix(line, "duration ") {
 			continue
 		}
-		if at := strings.LastIndex(line, " |"); at >= 0 {
-			line = line[:at] + " |" + together(strings.Fields(line[at+2:]))
+		if !strings.HasPrefix(line, "sample ") {
+			fmt.Fprintln(out, line)
+			continue
 		}
-		fmt.Fprintln(out, line)
+		told++
+		// (pprof passes over a sample whose values are all 0)
+		if nothing.MatchString(line) {
+			continue
+		}
+		values, shown, _ := strings.Cut(strings.TrimPrefix(line, "sample "), " |")
+		at := strings.LastIndex(shown, " |")
+		held.add(strings.Fields(values), " |"+shown[:at]+" |"+together(strings.Fields(shown[at+2:])))
 	}
 	fatal(in.Err())
+	held.write(out)
 	fatal(out.Flush())
+	profile, err := os.ReadFile(file)
+	fatal(err)
+	if holds := count(profile); told != holds {
+		fatal(fmt.Errorf("%d samples are told, %s holds %d", told, file, holds))
+	}
 }
 
 func change(gp, file, times string) {
@@ -318,7 +398,7 @@ func main() {
 	case "lines":
 		lines(os.Stdin)
 	case "plain":
-		plain(os.Stdin)
+		plain(os.Stdin, os.Args[2])
 	case "change":
 		change(os.Args[2], os.Args[3], os.Args[4])
 	}

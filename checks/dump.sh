@@ -1,8 +1,8 @@
 #!/usr/bin/env bash
 # Dumps profiles that Go's own runtime/pprof made, in the folder that this is started in, and compares each dump with what
 # `go tool pprof -raw` shows of the same file: types, period, and samples in order, each with its values, its frames, inlined ones
-# among them, and its labels. Then a profile with single bytes changed is dumped a thousand times: it is read, or refused by one
-# line, and never takes a second.
+# among them, and its labels. As many samples are told as the file holds; pprof then shows those with equal locations as one. Then a
+# profile with single bytes changed is dumped a thousand times: it is read, or refused by one line, and never takes a second.
 . "$(dirname -- "${BASH_SOURCE[0]}")/head.bash"
 
 # In CI the tools may be installed; a user's machine is left as it is.
@@ -21,7 +21,7 @@ for kind in goroutine heap cpu block mutex; do
   go tool pprof -symbolize=none -raw "$kind.pb" >raw 2>/dev/null || fail "pprof doesn't read $kind.pb"
   ./dumper lines <raw >wanted
   "$gp" dump "$kind.pb" >said || fail "gp dump $kind.pb: status $?"
-  ./dumper plain <said >got
+  ./dumper plain "$kind.pb" <said >got || fail "gp dump $kind.pb: other samples than the file holds"
   grep -q '^sample ' wanted || fail "pprof shows no sample of $kind.pb"
   grep -q '^duration ' said || fail "gp dump $kind.pb tells no duration"
   cmp -s -- wanted got || fail "gp dump $kind.pb: in place of what pprof shows: $(diff wanted got | head -n 6)"

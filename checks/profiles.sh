@@ -264,10 +264,11 @@ else
   echo "skipped: no large profile (no python3)"
 fi
 
-# Every example, by the paths that the README shows. FILE stands in the profile as it was written.
+# Every example, by the paths that the documents show. FILE stands in the profile as it was written. (What the folders of examples
+# are to give is in their expected.txt, for documents.sh; three of them are looked into here too.)
 ln -s -- "$top/examples" examples
 seen=0
-for file in examples/*.gp; do
+for file in examples/*.gp examples/{convoy/convoy,consumer/consumer,hot/hot}.gp; do
   seen=$((seen + 1))
   case $file in
     examples/first.gp)
@@ -322,7 +323,7 @@ for file in examples/*.gp; do
         waits mutex.pb ''
       done
       ;;
-    examples/convoy.gp)
+    examples/convoy/convoy.gp)
       # by a simulator that was written apart: all 400 locks of `change` are waited for
       run 0 '' sim "$file" --workers 1 --block 1 --mutex 1
       waits mutex.pb "399 35846000 change@$file:35 quick@$file:26" "1 2001000 slow@$file:20"
@@ -330,14 +331,14 @@ for file in examples/*.gp; do
       top_of mutex.pb '^ *35\.85ms 94\.71% 94\.71% +35\.85ms 94\.71% +change$' '^ *2ms +5\.29% +100% +2ms +5\.29% +slow$'
       top_of block.pb '^ *37\.85ms .* change$' '^ *15\.71ms .* main$'
       ;;
-    examples/consumer.gp)
+    examples/consumer/consumer.gp)
       # by the same: 32 of the 100 sends wait for room, and the consumer waits for the first item alone
       run 0 '' sim "$file" --workers 1 --block 1 --mutex 1
       waits mutex.pb ''
       waits block.pb "1 22200000 main@$file:10" "32 4345000 deliver@$file:21 producer@$file:16" "1 20000 consumer@$file:26"
       top_of block.pb '^ *22\.20ms .* main$' '^ *4\.34ms .* deliver$'
       ;;
-    examples/hot.gp)
+    examples/hot/hot.gp)
       # of 127 ticks 120 fall into `scan`, three quarters of them behind `search`
       run 0 '' sim "$file" --workers 1
       summary 'instructions 1270002' 'ticks 127 samples 127 lost 0'

@@ -44,8 +44,9 @@ answers 1 'usage 0 1' SIM a.gp
 answers 1 'usage 0 1' -- sim a.gp
 answers 1 'usage 0 1' 'sim a.gp'
 answers 1 'usage 0 1' --help sim
-answers 1 'usage 0 1' run
-answers 1 'usage 0 1' run a.gp --picks 1
+answers 1 'usage 1 2' run
+answers 1 'usage 2 3' run a.gp --picks 1
+answers 1 'usage 4 5' run a.gp --room 1 --room 1
 
 # The numbers of a program that is made.
 answers 1 'usage 1 2' gen
@@ -152,6 +153,7 @@ answers 2 'refused long' sim odd.gp --at 0
 
 # Files that can't be read.
 answers 3 'read fault' sim missing.gp --at 0
+answers 3 'read fault' run missing.gp --at 0
 answers 3 'read fault' sim . --at 0
 answers 3 'read fault' sim a.gp/b --at 0
 
@@ -170,7 +172,7 @@ for word in --help -h help; do
   "$gp" "$word" >said 2>told
   [ $? = 0 ] || fail "gp $word: another status than 0"
   [ -s said ] && fail "gp $word: it wrote to the standard output"
-  for part in 'gp sim FILE' 'gp dump PROFILE' --workers '1 to 16' 262,144 deadlock COMMANDS.md; do
+  for part in 'gp run FILE' 'gp sim FILE' 'gp dump PROFILE' --workers '1 to 16' 262,144 deadlock COMMANDS.md; do
     grep -q -e "$part" told || fail "gp $word: its page has no '$part'"
   done
 done

@@ -1,0 +1,99 @@
+"""Times runs on threads: run.py GP PROGRAMS ROUNDS [BESIDE], in an empty folder; run.sh calls it.
+
+Times are the least of ROUNDS rounds in which `run`, `sim` and Go take turns: the time that passes, and the processor time of all
+threads together. What a run on threads does differs from round to round, so entries and operations are those of the least time's
+run, as its summary tells. `MiB` is the largest peak of memory, and no less than that of the Python that starts the program.
+"""
+
+import math
+import os
+import re
+import subprocess
+import sys
+import time
+
+gp, programs, rounds, beside = sys.argv[1], sys.argv[2], int(sys.argv[3]), sys.argv[4:]
+MOST = 4_194_304
+
+
+def program(name, *words):
+    """Writes a program, and returns its numbers."""
+    with open(name, "w", encoding="utf-8") as to:
+        said = subprocess.run([sys.executable, programs, *map(str, words)], stdout=to, stderr=subprocess.PIPE, check=True)
+    return [int(it) for it in said.stderr.split()]
+
+
+class Took:
+    """The least time that a command took, what it used then, its summary, and the largest memory of all its runs."""
+
+    def __init__(self):
+        self.passed, self.used, self.memory, self.said = math.inf, math.inf, 0.0, ""
+
+    def number(self, name):
+        return int(re.search(rf"\b{name} (\d+)", self.said)[1])
+
+
+def once(took, words, status, environment=None):
+    with open("said", "w+", encoding="utf-8") as said:
+        began = time.monotonic()
+        process = subprocess.Popen(words, stdin=subprocess.DEVNULL, stdout=said, stderr=said, env={**os.environ, **(environment or {})})
+        _, ended, usage = os.wait4(process.pid, 0)
+        passed = time.monotonic() - began
+        process.returncode = os.waitstatus_to_exitcode(ended)
+        said.seek(0)
+        text = said.read()
+    if process.returncode != status:
+        print(f"  {' '.join(words[1:])}: status {process.returncode} in place of {status} {text}")
+    took.memory = max(took.memory, usage.ru_maxrss / 1024)
+    if passed < took.passed:
+        took.passed, took.used, took.said = passed, usage.ru_utime + usage.ru_stime, text
+
+
+def measure(commands, status=0):
+    """What each command took, each a list of words and an environment; in turns."""
+    found = [Took() for _ in commands]
+    for _ in range(rounds):
+        for took, (words, environment) in zip(found, commands):
+            once(took, [str(it) for it in words], status, environment)
+    return found
+
+
+def head(*columns):
+    print("".join(f"{it:>14}" for it in columns))
+
+
+def row(*columns):
+    print("".join(f"{told(it):>14}" for it in columns), flush=True)
+
+
+def told(it):
+    return it if isinstance(it, str) else str(it) if isinstance(it, int) else f"{it:.3g}" if math.isfinite(it) else "-"
+
+
+print(f"processors {os.cpu_count()}, load {os.getloadavg()[0]:.1f}, rounds {rounds}")
+for kind, asked, title in (
+    ("shared", [], "Channels and mutexes alone, 64 goroutines. An operation is a shared point that was passed."),
+    ("mixed", ["--at", 1000], "Calls, work, channels and mutexes, 64 goroutines, with one profile. An operation is a shared point or a work passed."),
+):
+    print(f"\n{title}")
+    head("workers", "entries", "run, ms", "sim, ms", "run/sim", "Go, ms", "run ns/entry", "run cpu, ms", "Go cpu, ms", "MiB")
+    operations = program("it.gp", kind, 64)[0]
+    for workers in (1, 2, 4):
+        options = ["it.gp", "--workers", workers, *asked, "--entries", MOST]
+        commands = [([gp, "run", *options], None), ([gp, "sim", *options], None)]
+        if beside:
+            commands.append(([beside[0], kind, 64], {"GOMAXPROCS": str(workers)}))
+        run, sim, *go = measure(commands)
+        made = run.number("entries")
+        go_passed, go_used = (go[0].passed, go[0].used) if go else (math.nan, math.nan)
+        row(workers, made, run.passed * 1e3, sim.passed * 1e3, run.passed / sim.passed, go_passed * 1e3, run.passed / made * 1e9, run.used * 1e3, go_used * 1e3, run.memory)
+    print(f"{'':>14}{operations} operations")
+
+print("\nProfiles of 16,384 goroutines while four workers go on: a run with eight profiles, less one with none, by eight.")
+head("workers", "run, ms", "sim, ms", "MiB")
+program("it.gp", "largest", 2)
+for workers in (1, 2, 4):
+    options = ["it.gp", "--workers", workers, "--cells", 16384, "--room", 16384, "--entries", 1_000_000]
+    asked = [word for at in range(50_000, 450_000, 50_000) for word in ("--at", at)]
+    found = measure([([gp, command, *options, *more], None) for command in ("run", "sim") for more in (asked, [])], status=8)
+    row(workers, (found[0].passed - found[1].passed) / 8 * 1e3, (found[2].passed - found[3].passed) / 8 * 1e3, found[0].memory)

@@ -1,0 +1,14 @@
+#!/usr/bin/env bash
+# run.sh [ROUNDS]: what runs on threads cost, beside simulated runs of the same files and beside Go on as many threads. It prints
+# tables and asserts nothing.
+#
+# The program itself is timed (head.bash says which). Go is left out where it isn't installed. See run.py for what the figures are.
+. "$(dirname -- "${BASH_SOURCE[0]}")/head.bash" "$@"
+
+beside=
+if command -v go >/dev/null; then
+  go build -o beside "$here/beside.go" && beside=$room/beside && go version
+else
+  echo "without Go: it isn't installed"
+fi
+python3 "$here/run.py" "$gp" "$here/programs.py" "$rounds" $beside
