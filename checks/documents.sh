@@ -69,7 +69,8 @@ for document in README.md docs/TUTORIAL.md $(cd -- "$top" && ls examples/*/expec
     [ -e "$folder/form" ] || continue
     case $(cat -- "$folder/form") in
       console) times=1 ;;
-      'console differs') times=20 ;;
+      # (where nothing runs on threads, to try again would change nothing but the time that is told)
+      'console differs') grep -qsF 'gp run' "$folder"/*.command && times=20 || times=1 ;;
       *) fail "$document: a fence of another form: $(cat -- "$folder/form")" && continue ;;
     esac
     until try "$document" "$folder"; do

@@ -67,7 +67,7 @@ round() {
   local dump=$1 wanted=$2 options order
   python3 "$top/tools/fromgo" "$dump" >made.gp 2>told || { fail "$dump is refused: $(cat told)"; return; }
   options=$(sed -n 's/^# gp sim FILE //p' made.gp)
-  for order in 'sim --workers 1' 'sim --workers 4 --seed 3' 'sim --workers 16 --seed 4' 'run --workers 4'; do
+  for order in 'sim --workers 1' 'sim --workers 16 --seed 3' 'run --workers 4'; do
     rm -f goroutine.1.pb
     "$gp" ${order%% *} made.gp ${order#* } $options >said
     [ $? = 6 ] || fail "$dump: gp $order $options: not status 6 but '$(cat said)'"
@@ -245,8 +245,6 @@ package main
 
 import (
 	"context"
-	"net"
-	"net/http"
 	"os"
 	"runtime/pprof"
 	"sync"
@@ -258,6 +256,16 @@ var (
 	never = make(chan int)
 )
 
+type handler interface{ serve(path string) }
+
+type handlerFunc func(path string)
+
+func (f handlerFunc) serve(path string) { f(path) }
+
+func layer(next handler) handler {
+	return handlerFunc(func(path string) { next.serve(path) })
+}
+
 type tree struct{}
 
 func (t *tree) walk(depth int) {
@@ -267,9 +275,9 @@ func (t *tree) walk(depth int) {
 	t.walk(depth - 1)
 }
 
-func layer(next http.Handler) http.Handler {
-	return http.HandlerFunc(func(w http.ResponseWriter, r *http.Request) { next.ServeHTTP(w, r) })
-}
+type pool[T any] struct{ items chan T }
+
+func (p *pool[T]) get() T { return <-p.items }
 
 func query(ctx context.Context, locks bool) {
 	if locks {
@@ -281,13 +289,15 @@ func query(ctx context.Context, locks bool) {
 	}
 }
 
-func handle(w http.ResponseWriter, r *http.Request) {
-	pprof.Do(r.Context(), pprof.Labels("route", r.URL.Path, "tier", "front"), func(ctx context.Context) {
-		switch r.URL.Path {
+func handle(path string) {
+	pprof.Do(context.Background(), pprof.Labels("route", path, "tier", "front"), func(ctx context.Context) {
+		switch path {
 		case "/lock":
 			query(ctx, true)
 		case "/select":
 			query(ctx, false)
+		case "/pool":
+			(&pool[int]{make(chan int)}).get()
 		default:
 			new(tree).walk(4)
 		}
@@ -296,21 +306,19 @@ func handle(w http.ResponseWriter, r *http.Request) {
 
 func main() {
 	store.Lock()
-	jobs := make(chan int)
+	jobs, full := make(chan int), make(chan int)
 	for i := 0; i < 9; i++ {
 		go func() {
 			for range jobs {
 			}
 		}()
+		go func() { full <- i }()
+		go time.Sleep(time.Hour)
 	}
-	listener, err := net.Listen("tcp", "127.0.0.1:0")
-	if err != nil {
-		os.Exit(3)
-	}
-	go http.Serve(listener, layer(layer(http.HandlerFunc(handle))))
+	service := layer(layer(handlerFunc(handle)))
 	for i := 0; i < 3; i++ {
-		for _, path := range []string{"/lock", "/select", "/select", "/tree"} {
-			go http.Get("http://" + listener.Addr().String() + path)
+		for _, path := range []string{"/lock", "/select", "/select", "/pool", "/tree"} {
+			go service.serve(path)
 		}
 	}
 	time.Sleep(300 * time.Millisecond)
@@ -321,12 +329,9 @@ func main() {
 	}
 }
 END_GO
-  go build -o service.run service.go && ./service.run
-  if [ $? = 3 ]; then
-    echo "skipped: no service (no port to listen at)"
-  else
-    # The texts leave out frames of the runtime (and `main` stands where it writes the dump, which is another place in each).
-    cat >as_text.py <<'END_PY'
+  go build -o service.run service.go && ./service.run || fail "no dumps of a service"
+  # The texts leave out frames of the runtime (and `main` stands where it writes the dump, which is another place in each).
+  cat >as_text.py <<'END_PY'
 import collections, sys
 
 sums = collections.Counter()
@@ -342,20 +347,19 @@ for line in sys.stdin:
 for stack in sorted(sums):
     print(sums[stack], stack.rstrip())
 END_PY
-    gunzip -c service.pb.gz >service.pb
-    "$gp" dump service.pb | python3 stacks.py dump >whole
-    go tool pprof -raw service.pb.gz 2>/dev/null | python3 stacks.py raw | cmp -s - whole || fail "pprof and gp dump show other stacks of the service"
-    round service.pb.gz whole
-    tells 'more than once stand: '
-    [ "$(wc -l <whole)" -ge 8 ] || fail "the service has $(wc -l <whole) stacks"
-    for debug in 1 2; do
-      python3 as_text.py "$debug" <whole >text.wanted
-      python3 "$top/tools/fromgo" "service.$debug.txt" >made.gp 2>told || fail "service.$debug.txt is refused: $(cat told)"
-      "$gp" sim made.gp --at end --seed 5 >/dev/null
-      "$gp" dump goroutine.1.pb | python3 stacks.py dump made.gp | grep -v ' main\.main ' >got
-      cmp -s got text.wanted || fail "service.$debug.txt: $(diff text.wanted got | head -n 6)"
-    done
-  fi
+  gunzip -c service.pb.gz >service.pb
+  "$gp" dump service.pb | python3 stacks.py dump >whole
+  go tool pprof -raw service.pb.gz 2>/dev/null | python3 stacks.py raw | cmp -s - whole || fail "pprof and gp dump show other stacks of the service"
+  round service.pb.gz whole
+  tells 'more than once stand: '
+  [ "$(wc -l <whole)" -ge 8 ] || fail "the service has $(wc -l <whole) stacks"
+  for debug in 1 2; do
+    python3 as_text.py "$debug" <whole >text.wanted
+    python3 "$top/tools/fromgo" "service.$debug.txt" >made.gp 2>told || fail "service.$debug.txt is refused: $(cat told)"
+    "$gp" sim made.gp --at end --seed 5 >/dev/null
+    "$gp" dump goroutine.1.pb | python3 stacks.py dump made.gp | grep -v ' main\.main ' >got
+    cmp -s got text.wanted || fail "service.$debug.txt: $(diff text.wanted got | head -n 6)"
+  done
 fi
 
 [ "$failures" = 0 ]

@@ -2,6 +2,10 @@
 # Runs the launcher of a repository of few crates, in the folder that this is started in, with a command rt that proves nothing and
 # does what it is told: what is built, in which order, side by side and once; what a call says that waits, and one whose parts fail;
 # that a call which is ended ends what it started, and the next one goes on where it was.
+# Signals that whoever started this ignores would be ignored in all that it starts.
+if [ -z "${GP_SIGNALS:-}" ]; then
+  GP_SIGNALS=default exec env --default-signal=HUP,INT,TERM bash "${BASH_SOURCE[0]}" "$@"
+fi
 . "$(dirname -- "${BASH_SOURCE[0]}")/head.bash"
 unset GP_GATE
 here=$PWD

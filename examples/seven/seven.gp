@@ -1,0 +1,7 @@
+func main {
+	spawn f
+	call f
+}
+func f {
+	work 50000
+}
