@@ -57,7 +57,8 @@ def item_of(process):
     if "--crate-name" not in words:
         return None
     crate = words[words.index("--crate-name") + 1]
-    return (crate, "edits") if "rt-edit-" in folder else (crate, "tests") if "--test" in words else (crate, "proof")
+    is_edit = any("/rt-edit" in it for it in [folder, *words])
+    return (crate, "edits") if is_edit else (crate, "tests") if "--test" in words else (crate, "proof")
 
 
 log = open(f"{repo}/../log", "w+", encoding="utf-8", errors="replace")

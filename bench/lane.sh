@@ -6,19 +6,11 @@
 # The program of the lane's tests drives it: one thread pushes records of four words, each until it is kept, and yields where there
 # is no room; the other pulls until it has them all, and yields where there is none. It is proved and built here over a copy of
 # the sources, so the first call takes as long as the proofs of the crates below it, less what earlier runs on this machine kept.
-# With a folder in GP_LANE it is left there, and taken from there by the next call. Go is left out where it isn't installed.
-set -u
-export LC_ALL=C
-here=$(cd -P -- "$(dirname -- "${BASH_SOURCE[0]}")" && pwd)
-top=${here%/*}
-rounds=${1:-5}
-if [ $# -gt 1 ] || ! [[ $rounds =~ ^[1-9][0-9]*$ ]]; then
-  echo "usage: lane.sh [ROUNDS]" >&2
-  exit 1
-fi
-room=$(mktemp -d) || exit 1
-trap 'rm -rf -- "$room"' EXIT
+# With a folder in GP_LANE it is left there, and taken from there by the next call; with GP_GATE=passed it is the program that `rt ci`
+# left. Go is left out where it isn't installed.
+. "$(dirname -- "${BASH_SOURCE[0]}")/room.bash" "$@"
 kept=${GP_LANE:-$room/kept}
+[ "${GP_GATE:-}" != passed ] || kept=$top/crates/gp_ring_tests/out
 mkdir -p -- "$kept" || exit 1
 kept=$(cd -P -- "$kept" && pwd)
 # the crate of these tests and those below it, as crates.txt names them

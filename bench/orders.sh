@@ -3,39 +3,9 @@
 # median of ROUNDS (5) searches, in seconds as time passes and of all processors.
 . "$(dirname -- "${BASH_SOURCE[0]}")/head.bash" "$@"
 
-cat >two.gp <<'END'
-mutex a
-mutex b
-chan done 2
-func main {
-  spawn left
-  spawn right
-  loop 2 {
-    recv done
-  }
-}
-func left {
-  work 50
-  lock a
-  work 20
-  lock b
-  unlock b
-  unlock a
-  send done
-}
-func right {
-  work 50
-  lock b
-  work 20
-  lock a
-  unlock a
-  unlock b
-  send done
-}
-END
 TIMEFORMAT='%R %U %S'
 for ((i = 0; i < rounds; i++)); do
-  { time GP=$gp "$here/../tools/orders" two.gp >said; } 2>>times
+  { time GP=$gp "$top/tools/orders" "$top/examples/order/order.gp" >said; } 2>>times
   grep -q '^ *6  deadlock ' said || { echo "${0##*/}: no deadlock was found" >&2; exit 1; }
 done
 middle=$(((rounds + 1) / 2))

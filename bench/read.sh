@@ -6,17 +6,7 @@
 # copy of the sources, so the first call takes as long as the proofs of the crates below it, less what earlier runs on this
 # machine kept. With a folder in GP_READ it is left there, and taken from there by the next call. See read.py for what the
 # figures are.
-set -u
-export LC_ALL=C
-here=$(cd -P -- "$(dirname -- "${BASH_SOURCE[0]}")" && pwd)
-top=${here%/*}
-rounds=${1:-5}
-if [ $# -gt 1 ] || ! [[ $rounds =~ ^[1-9][0-9]*$ ]]; then
-  echo "usage: read.sh [ROUNDS]" >&2
-  exit 1
-fi
-room=$(mktemp -d) || exit 1
-trap 'rm -rf -- "$room"' EXIT
+. "$(dirname -- "${BASH_SOURCE[0]}")/room.bash" "$@"
 kept=${GP_READ:-$room/kept}
 mkdir -p -- "$kept" || exit 1
 kept=$(cd -P -- "$kept" && pwd)

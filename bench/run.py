@@ -12,15 +12,10 @@ import subprocess
 import sys
 import time
 
+from runs import head, program, row
+
 gp, programs, rounds, beside = sys.argv[1], sys.argv[2], int(sys.argv[3]), sys.argv[4:]
 MOST = 4_194_304
-
-
-def program(name, *words):
-    """Writes a program, and returns its numbers."""
-    with open(name, "w", encoding="utf-8") as to:
-        said = subprocess.run([sys.executable, programs, *map(str, words)], stdout=to, stderr=subprocess.PIPE, check=True)
-    return [int(it) for it in said.stderr.split()]
 
 
 class Took:
@@ -58,18 +53,6 @@ def measure(commands, status=0):
     return found
 
 
-def head(*columns):
-    print("".join(f"{it:>14}" for it in columns))
-
-
-def row(*columns):
-    print("".join(f"{told(it):>14}" for it in columns), flush=True)
-
-
-def told(it):
-    return it if isinstance(it, str) else str(it) if isinstance(it, int) else f"{it:.3g}" if math.isfinite(it) else "-"
-
-
 print(f"processors {os.cpu_count()}, load {os.getloadavg()[0]:.1f}, rounds {rounds}")
 for kind, asked, title in (
     ("shared", [], "Channels and mutexes alone, 64 goroutines. An operation is a shared point that was passed."),
@@ -77,7 +60,7 @@ for kind, asked, title in (
 ):
     print(f"\n{title}")
     head("workers", "entries", "run, ms", "sim, ms", "run/sim", "Go, ms", "run ns/entry", "run cpu, ms", "Go cpu, ms", "MiB")
-    operations = program("it.gp", kind, 64)[0]
+    operations = program(programs, "it.gp", kind, 64)[0]
     for workers in (1, 2, 4):
         options = ["it.gp", "--workers", workers, *asked, "--entries", MOST]
         commands = [([gp, "run", *options], None), ([gp, "sim", *options], None)]
@@ -91,7 +74,7 @@ for kind, asked, title in (
 
 print("\nProfiles of 16,384 goroutines while four workers go on: a run with eight profiles, less one with none, by eight.")
 head("workers", "run, ms", "sim, ms", "MiB")
-program("it.gp", "largest", 2)
+program(programs, "it.gp", "largest", 2)
 for workers in (1, 2, 4):
     options = ["it.gp", "--workers", workers, "--cells", 16384, "--room", 16384, "--entries", 1_000_000]
     asked = [word for at in range(50_000, 450_000, 50_000) for word in ("--at", at)]

@@ -12,15 +12,10 @@ import re
 import subprocess
 import sys
 
+from runs import head, program, row
+
 gp, programs, rounds, beside = sys.argv[1], sys.argv[2], int(sys.argv[3]), sys.argv[4:]
 FULL, LEAST, MOST = 8, 16, 4_194_304
-
-
-def program(name, *words):
-    """Writes a program, and returns its numbers."""
-    with open(name, "w", encoding="utf-8") as to:
-        said = subprocess.run([sys.executable, programs, *map(str, words)], stdout=to, stderr=subprocess.PIPE, check=True)
-    return [int(it) for it in said.stderr.split()]
 
 
 def once(words, environment=None):
@@ -77,18 +72,6 @@ def growth(rows):
     return sum((n - x) * (it - y) for n, it in rows) / sum((n - x) ** 2 for n, _ in rows)
 
 
-def head(*columns):
-    print("".join(f"{it:>14}" for it in columns))
-
-
-def row(*columns):
-    print("".join(f"{told(it):>14}" for it in columns), flush=True)
-
-
-def told(it):
-    return it if isinstance(it, str) else str(it) if isinstance(it, int) else f"{it:.3g}" if math.isfinite(it) else "-"
-
-
 print(f"processors {os.cpu_count()}, load {os.getloadavg()[0]:.1f}, rounds {rounds}")
 with open("smallest.gp", "w", encoding="utf-8") as to:
     to.write("func main {\nwork 1\n}\n")
@@ -105,7 +88,7 @@ for kind, asked, title in (
     for workers in (1, 4, 16):
         rows = []
         for n in (4, 8, 16, 32, 64, 128, 256):
-            operations = program("it.gp", kind, n)[0]
+            operations = program(programs, "it.gp", kind, n)[0]
             options = ["--workers", workers, *asked]
             ((took, memory),), of_go = measure([sim("it.gp", *options, "--entries", MOST)], go=(kind, n))
             rows.append((n, took))
@@ -119,7 +102,7 @@ print("\nFiles that make an entry dear, less what reading them takes. A call is 
 head("file", "size", "entries", "ns/entry", "ns/call", "MiB")
 least = math.nan
 for kind, size in (("twice", 38), ("twice", 250), ("row", 149_000), ("climb", 2), ("climb", 32), ("climb", 250)):
-    program("it.gp", kind, size)
+    program(programs, "it.gp", kind, size)
     made = 4096 if kind == "twice" else entries("it.gp", "--workers", 1)
     (begun, whole), _ = measure([sim("it.gp", "--workers", 1, "--entries", it) for it in (LEAST, made)], status=None)
     took = whole[0] - begun[0]
@@ -131,8 +114,8 @@ print("\nReading and judging a file: 256 functions that each call the next one, 
 head("KiB", "wide, ms", "row, ms", "MiB")
 rows = []
 for kibibytes in (128, 256, 512, 1000):
-    program("wide.gp", "wide", kibibytes)
-    program("row.gp", "row", kibibytes * 1024 // 7 - 4)
+    program(programs, "wide.gp", "wide", kibibytes)
+    program(programs, "row.gp", "row", kibibytes * 1024 // 7 - 4)
     (wide, flat), _ = measure([sim("wide.gp", "--entries", LEAST), sim("row.gp", "--entries", LEAST)], status=FULL)
     rows.append((kibibytes, wide[0]))
     row(kibibytes, wide[0] * 1000, flat[0] * 1000, wide[1])
@@ -143,7 +126,7 @@ head("stacks", "goroutines", "us/goroutine", "Go", "ratio", "MiB")
 for kind in ("same", "distinct"):
     rows = []
     for n in (1024, 2048, 4096, 8192, 16384):
-        _, stacks = program("it.gp", "blocked", n, kind)
+        _, stacks = program(programs, "it.gp", "blocked", n, kind)
         options = ["it.gp", "--workers", 1, "--cells", 16384, "--room", 16384, "--entries", MOST]
         runs = [sim(*options), sim(*options, *["--at", "end"] * 8)]
         (plain, profiled), of_go = measure(runs, status=6, go=("blocked", n, kind), is_told=True)
@@ -154,7 +137,7 @@ for kind in ("same", "distinct"):
 
 print("\nSamples: workers of calls, work, channels and mutexes, 64 goroutines, at several rates; a Tick is an entry too.")
 head("workers", "samples/s", "ticks", "lost", "entries", "ns/entry", "ns/tick", "MiB")
-program("it.gp", "mixed", 64)
+program(programs, "it.gp", "mixed", 64)
 for workers in (1, 4):
     options = ["it.gp", "--workers", workers, "--entries", MOST]
     rates = (1, 100, 10_000, 1_000_000)
@@ -170,7 +153,7 @@ head("frames", "stacks", "samples", "ms", "us/sample", "MiB")
 for frames, stacks in ((1, 1), (64, 1), (64, 1024)):
     rows = []
     for n in (125_000, 250_000, 500_000, 1_000_000, 2_000_000):
-        program("it.gp", "sampled", frames, stacks, n)
+        program(programs, "it.gp", "sampled", frames, stacks, n)
         ((took, memory),), _ = measure([sim("it.gp", "--workers", 1, "--hz", 1_000_000, "--entries", MOST)])
         rows.append((n, took))
         row(frames, stacks, n, took * 1e3, took / n * 1e6, memory)
@@ -198,7 +181,7 @@ for numbers, limits, rates in (
 print("\nThe largest settings: 16 workers, 16,384 goroutines, a full journal, eight profiles of all of them.")
 head("frames", "entries", "ns/entry", "MiB")
 for frames in (2, 256):
-    program("it.gp", "largest", frames)
+    program(programs, "it.gp", "largest", frames)
     times = [20_000, *range(500_000, 3_500_000, 500_000)]
     options = ["--workers", 16, "--cells", 16384, "--room", 16384, "--entries", MOST]
     ((took, memory),), _ = measure([sim("it.gp", *options, *(word for at in times for word in ("--at", at)), "--at", "end")], status=FULL)

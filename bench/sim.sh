@@ -5,10 +5,5 @@
 # The program itself is timed (head.bash says which). Go is left out where it isn't installed. See sim.py for what the figures are.
 . "$(dirname -- "${BASH_SOURCE[0]}")/head.bash" "$@"
 
-beside=
-if command -v go >/dev/null; then
-  go build -o beside "$here/beside.go" && beside=$room/beside && go version
-else
-  echo "without Go: it isn't installed"
-fi
-python3 "$here/sim.py" "$gp" "$here/programs.py" "$rounds" $beside
+build_beside
+python3 -B "$here/sim.py" "$gp" "$here/programs.py" "$rounds" $beside
