@@ -37,8 +37,8 @@
 //! clock 1012   Op{0, 1}   goroutine 1 passes its lock       block: at line 13, 1 more, and 5000 ns
 //! ```
 //!
-//! `specs/Events.antt` has the events of a journal, `specs/History.antt` what the calls ask for; `specs/Recorder.antt` what the lists are to the history, and
-//! `specs/kept/` what is kept in place.
+//! `specs/Events.antt` has the events of a journal, `specs/History.antt` what the calls ask for; `specs/Recorder.antt` what the lists
+//! are to the history, and `specs/kept/` what is kept in place.
 #![tactic(auto)]
 
 mod history;

@@ -19,14 +19,14 @@ use Rattle.gp_profiler.specs.declared.answers.Closing.{Closing}
 use Rattle.gp_profiler.specs.declared.answers.Closing.TheVariants.{Closed, Missing}
 
 -- The world with one entry more, or as it was.
-abbrev pub entered : Scene → Option Entry → Scene
-entered world None = world
-entered world (Some entry) = record world { journal = world.journal ++ entry ∷ [] }
+abbrev pub with_entry : Scene → Option Entry → Scene
+with_entry world None = world
+with_entry world (Some entry) = record world { journal = world.journal ++ entry ∷ [] }
 
 -- The share with another row where an entry was made, or as it was.
-abbrev pub noted : Part → Option Entry → Row → Part
-noted share None row = share
-noted share (Some entry) row = record share { row = row }
+abbrev pub share_with : Part → Option Entry → Row → Part
+share_with share None row = share
+share_with share (Some entry) row = record share { row = row }
 
 -- ---- open_profile
 

@@ -5,7 +5,7 @@ ghost use Rattle.gp_journal.specs.Run.{state_of};
 ghost use Rattle.gp_journal.specs.State.{code_of};
 ghost use Rattle.gp_ring.specs.PlainRing.{closed};
 ghost use Rattle.gp_world.specs.Rows.{profiler_row, finished_row, has_finished};
-ghost use Rattle.gp_profiler.specs.Calls.{entered, noted, closing_of, closing_entry};
+ghost use Rattle.gp_profiler.specs.Calls.{with_entry, share_with, closing_of, closing_entry};
 
 use crate::answers::Closing;
 use gp_machine::Run;
@@ -19,8 +19,8 @@ pub fn close_profile<R: Run>(world: &mut World<R>, who: &mut Share) -> Closing
     requires profiler { who.old.number ≡ R.settings.workers }
     requires active { 0 < (state_of R.program R.settings world.old.journal).active }
     ensures answer { result ≡ closing_of (code_of R.program) R.settings world.old.journal }
-    ensures scene { world.new ≡ entered world.old (closing_entry result) }
-    ensures share { who.new ≡ noted who.old (closing_entry result) (profiler_row R.program R.settings world.new.journal) }
+    ensures scene { world.new ≡ with_entry world.old (closing_entry result) }
+    ensures share { who.new ≡ share_with who.old (closing_entry result) (profiler_row R.program R.settings world.new.journal) }
 {
     let epoch = world.machine().active();
     let n = world.expected();

@@ -3,7 +3,7 @@ ghost use Rattle.std.specs.Prelude.{◌≡◌, true};
 ghost use Rattle.gp_journal.specs.Due.{asked};
 ghost use Rattle.gp_journal.specs.Run.{state_of};
 ghost use Rattle.gp_world.specs.Rows.{profiler_row};
-ghost use Rattle.gp_profiler.specs.Calls.{entered, noted, opening_of, opening_entry};
+ghost use Rattle.gp_profiler.specs.Calls.{with_entry, share_with, opening_of, opening_entry};
 
 use crate::answers::Opening;
 use gp_machine::Run;
@@ -18,9 +18,9 @@ pub fn open_profile<R: Run>(world: &mut World<R>, who: &mut Share, room: u32) ->
     requires asked { asked R.settings (state_of R.program R.settings world.old.journal) ≡ true }
     requires room { room ≡ R.settings.room }
     ensures answer { result ≡ opening_of R.settings (state_of R.program R.settings world.old.journal) }
-    ensures scene { world.new ≡ entered world.old (opening_entry R.settings result) }
+    ensures scene { world.new ≡ with_entry world.old (opening_entry R.settings result) }
     ensures share { who.new
-        ≡ noted who.old (opening_entry R.settings result) (profiler_row R.program R.settings world.new.journal) }
+        ≡ share_with who.old (opening_entry R.settings result) (profiler_row R.program R.settings world.new.journal) }
 {
     let running = world.running();
     if running > 0 {

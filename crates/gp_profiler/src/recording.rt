@@ -4,7 +4,7 @@ ghost use Rattle.gp_journal.specs.Frozen.{row};
 ghost use Rattle.gp_journal.specs.Run.{state_of};
 ghost use Rattle.gp_journal.specs.State.{code_of, goroutine, is_live};
 ghost use Rattle.gp_world.specs.Rows.{row_of, MayRecordAs};
-ghost use Rattle.gp_profiler.specs.Calls.{entered, noted, recording_of, recording_entry};
+ghost use Rattle.gp_profiler.specs.Calls.{with_entry, share_with, recording_of, recording_entry};
 
 use crate::answers::Recording;
 use gp_machine::Run;
@@ -26,9 +26,9 @@ pub fn record_one<R: Run>(
     requires copy { copy
         ≡ row (code_of R.program) copy.g (goroutine (state_of R.program R.settings world.old.journal) copy.g) }
     ensures answer { result ≡ recording_of (state_of R.program R.settings world.old.journal) copy.g }
-    ensures scene { world.new ≡ entered world.old (recording_entry who.old.number copy.g result) }
+    ensures scene { world.new ≡ with_entry world.old (recording_entry who.old.number copy.g result) }
     ensures share { who.new
-        ≡ noted who.old (recording_entry who.old.number copy.g result)
+        ≡ share_with who.old (recording_entry who.old.number copy.g result)
         (row_of R.program R.settings world.new.journal who.old.number who.old.row.a who.old.row.b) }
     ensures body { body.new ≡ body.old }
 {

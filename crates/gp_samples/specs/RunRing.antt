@@ -89,7 +89,8 @@ pub record IsReadable (ring : PlainRing) : Type 0 where
 
 -- The ring of a run is open, of the run's size, and follows the samples of the journal and the records taken; what is unread
 -- are whole records.
-pub record KeepsRing (program : Parts) (settings : Settings) (journal : List Entry) (records : List RingRecord) (ring : PlainRing) : Type 0 where
+pub record KeepsRing (program : Parts) (settings : Settings) (journal : List Entry) (records : List RingRecord) (ring : PlainRing)
+    : Type 0 where
   pub header : ring.hdrsize ≡ 1
   pub words : ring.len ≡ ring_len program settings
   pub tags : ring.tags ≡ ring_tags settings

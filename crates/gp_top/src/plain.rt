@@ -217,7 +217,8 @@ pub fn plain_top<S: Source, K: Store, O: Sink>(
     ensures usage_line { result.status ≡ exit_usage
         → TellsUsage (asked_of (texts words.now)) (O.written out.old, O.faults out.old) (O.written out.new, O.faults out.new) }
     ensures refused_line { result.status ≡ exit_refused
-        → TellsRefused (asked_of (texts words.now)) (S.left source.old) (O.written out.old, O.faults out.old) (O.written out.new, O.faults out.new) }
+        → TellsRefused (asked_of (texts words.now)) (S.left source.old) (O.written out.old, O.faults out.old)
+        (O.written out.new, O.faults out.new) }
     ensures read_line { result.status ≡ exit_read_fault
         → IsWritten (fault_line Read) (O.written out.old, O.faults out.old) (O.written out.new, O.faults out.new) }
     ensures memory { result.status ≡ exit_memory → out.new ≡ out.old }

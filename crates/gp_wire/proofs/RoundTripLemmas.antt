@@ -94,7 +94,8 @@ first_7 p = first_6 p ++ optional 11 value_type_fields p.period_type
 
 profile_written : (p : Profile) → Fits p → AllByRecursion CanBeWritten (profile_fields p)
 profile_written p fits =
-    let w2 = all_append CanBeWritten (messages 1 value_type_fields p.sample_types) (messages 2 sample_fields p.samples) (messages_written value_type_fields 1 p.sample_types (omega arith, omega arith)) (messages_written sample_fields 2 p.samples (omega arith, omega arith)) in
+    let w2 = all_append CanBeWritten (messages 1 value_type_fields p.sample_types) (messages 2 sample_fields p.samples) (messages_written value_type_fields 1 p.sample_types (omega arith, omega arith))
+    (messages_written sample_fields 2 p.samples (omega arith, omega arith)) in
     let w3 = all_append CanBeWritten (first_2 p) (messages 4 location_fields p.locations) w2 (messages_written location_fields 4 p.locations (omega arith, omega arith)) in
     let w4 = all_append CanBeWritten (first_3 p) (messages 5 function_fields p.functions) w3 (messages_written function_fields 5 p.functions (omega arith, omega arith)) in
     let w5 = all_append CanBeWritten (first_4 p) (texts 6 p.strings) w4 (texts_written 6 p.strings (omega arith, omega arith)) in
@@ -144,10 +145,14 @@ profile_same : (p : Profile) → Fits p → Segments p → profile_from (profile
 unfolding profile_from
 profile_same p fits read =
     let fs = profile_fields p in
-    let types = messages_same value_type_fields value_type_from no_cause 1 p.sample_types fs (all_again TypeFits value_type_fields value_type_from no_cause value_type_again p.sample_types fits.sample_types) read.types (simp (values_under-append, values-scalar, values-messages, values-texts, values-optional, append-nil) refl) in
-    let samples = messages_same sample_fields sample_from sample_check 2 p.samples fs (all_again SampleFits sample_fields sample_from sample_check sample_again p.samples fits.samples) read.samples (simp (values_under-append, values-scalar, values-messages, values-texts, values-optional, append-nil) refl) in
-    let locations = messages_same location_fields location_from location_check 4 p.locations fs (all_again LocationFits location_fields location_from location_check location_again p.locations fits.locations) read.locations (simp (values_under-append, values-scalar, values-messages, values-texts, values-optional, append-nil) refl) in
-    let functions = messages_same function_fields function_from no_cause 5 p.functions fs (all_again FunctionFits function_fields function_from no_cause function_again p.functions fits.functions) read.functions (simp (values_under-append, values-scalar, values-messages, values-texts, values-optional, append-nil) refl) in
+    let types = messages_same value_type_fields value_type_from no_cause 1 p.sample_types fs (all_again TypeFits value_type_fields value_type_from no_cause value_type_again p.sample_types fits.sample_types) read.types
+    (simp (values_under-append, values-scalar, values-messages, values-texts, values-optional, append-nil) refl) in
+    let samples = messages_same sample_fields sample_from sample_check 2 p.samples fs (all_again SampleFits sample_fields sample_from sample_check sample_again p.samples fits.samples) read.samples
+    (simp (values_under-append, values-scalar, values-messages, values-texts, values-optional, append-nil) refl) in
+    let locations = messages_same location_fields location_from location_check 4 p.locations fs (all_again LocationFits location_fields location_from location_check location_again p.locations fits.locations) read.locations
+    (simp (values_under-append, values-scalar, values-messages, values-texts, values-optional, append-nil) refl) in
+    let functions = messages_same function_fields function_from no_cause 5 p.functions fs (all_again FunctionFits function_fields function_from no_cause function_again p.functions fits.functions) read.functions
+    (simp (values_under-append, values-scalar, values-messages, values-texts, values-optional, append-nil) refl) in
     let strings : parts_under 6 fs ≡ p.strings = parts_from (λ t. t) 6 p.strings fs (simp (values_under-append, values-scalar, values-messages, values-texts, values-optional, append-nil) refl) ∙ map-id p.strings in
     let duration = signed_from 10 p.duration fs fits.duration (simp (values_under-append, values-scalar, values-messages, values-texts, values-optional, append-nil) refl) in
     let period_type = period_same p.period_type fs fits.period_type read.period (simp (values_under-append, values-scalar, values-messages, values-texts, values-optional, append-nil) refl) in

@@ -51,7 +51,8 @@ pub(crate) fn take_all<M: FromFields>(
     message: &mut M,
     bytes: &[u8],
 ) -> Result<(), Halt>
-    ensures taken { (fields : List Field) → message.old ≡ M.made fields → OnOk result (message.new ≡ M.made (fields ++ fields_of bytes.now)) }
+    ensures taken { (fields : List Field) → message.old ≡ M.made fields
+        → OnOk result (message.new ≡ M.made (fields ++ fields_of bytes.now)) }
     ensures fine { OnOk result (first_fault M.check bytes.now ≡ None) }
     ensures fault { IfErr result (HaltsBy (first_fault M.check bytes.now)) }
     ensures near { IfErr result (λ halt. halt.left ≤ length bytes.now) }
@@ -73,7 +74,8 @@ pub(crate) fn take_all<M: FromFields>(
 
 /// All fields of a part go into a message.
 pub(crate) fn merge<M: FromFields>(alloc: Global, message: &mut M, bytes: &[u8]) -> Result<(), Stop>
-    ensures taken { (fields : List Field) → message.old ≡ M.made fields → OnOk result (message.new ≡ M.made (fields ++ fields_of bytes.now)) }
+    ensures taken { (fields : List Field) → message.old ≡ M.made fields
+        → OnOk result (message.new ≡ M.made (fields ++ fields_of bytes.now)) }
     ensures fine { OnOk result (first_cause M.check bytes.now ≡ None) }
     ensures fault { IfErr result (StopsBy (first_cause M.check bytes.now)) }
 {

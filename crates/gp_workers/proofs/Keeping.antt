@@ -25,7 +25,7 @@ use Rattle.gp_cpu.specs.Samples.{sampled_at}
 use Rattle.gp_samples.specs.RunRing.{with_offers, KeepsRing}
 use Rattle.gp_samples.proofs.Offers.{written-ended}
 use Rattle.gp_samples.proofs.Keeping.{entry_keeps}
-use Rattle.gp_world.specs.Calls.{may_not_start, over_by_record, entries_recorded, start_entries}
+use Rattle.gp_world.specs.Calls.{may_not_start, over_by_record, entries_with, start_entries}
 use Rattle.gp_world.specs.Scene.{Scene}
 use Rattle.gp_workers.specs.kept.Locked.{Fit, Reads, IsRead, Leaves}
 
@@ -187,11 +187,11 @@ start_still code settings s w g copy = by (may_not_start settings s) (is_recorde
     recorded true = (refl, tt)
     recorded false = (refl, (refl, tt))
 
-    with_copy : (c : Option Copy) → AreStill (entries_recorded code settings s w g c)
+    with_copy : (c : Option Copy) → AreStill (entries_with code settings s w g c)
     with_copy None = tt
     with_copy (Some c) = recorded (over_by_record code settings s w g)
 
-    by : (not_now has : Bool) → AreStill (if not_now then [] else if has then Start w g ∷ [] else entries_recorded code settings s w g copy)
+    by : (not_now has : Bool) → AreStill (if not_now then [] else if has then Start w g ∷ [] else entries_with code settings s w g copy)
     by true has = tt
     by false true = (refl, tt)
     by false false = with_copy copy

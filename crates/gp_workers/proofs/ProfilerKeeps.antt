@@ -26,7 +26,7 @@ use Rattle.gp_profiler.specs.declared.answers.Recording.{Recording}
 use Rattle.gp_profiler.specs.declared.answers.Recording.TheVariants.{Recorded, Already}
 use Rattle.gp_profiler.specs.declared.answers.Closing.{Closing}
 use Rattle.gp_profiler.specs.declared.answers.Closing.TheVariants.{Closed, Missing}
-use Rattle.gp_profiler.specs.Calls.{entered, noted, opening_entry, recording_entry, closing_entry}
+use Rattle.gp_profiler.specs.Calls.{with_entry, share_with, opening_entry, recording_entry, closing_entry}
 use Rattle.gp_workers.specs.kept.Locked.{IsRead, Keeps, Leaves, IsProfiler}
 use Rattle.gp_workers.proofs.Keeping.{is_still, leaves_all, leaves_same}
 
@@ -47,7 +47,7 @@ closing_still (Closed epoch) = refl
 closing_still (Missing have n) = tt
 
 -- A call that makes one entry, or none, moves no body.
-pub entered_leaves : (program : Parts) (settings : Settings) → AreInRange settings → (old new : Scene) (made : Option Entry) → IsStill made → new ≡ entered old made → IsLegal (code_of program) settings new.journal → Leaves program settings old new
+pub entered_leaves : (program : Parts) (settings : Settings) → AreInRange settings → (old new : Scene) (made : Option Entry) → IsStill made → new ≡ with_entry old made → IsLegal (code_of program) settings new.journal → Leaves program settings old new
 entered_leaves program settings range old new None still is legal = subst (Leaves program settings old) (sym is) (leaves_same program settings range old)
 entered_leaves program settings range old new (Some entry) still is legal =
     leaves_all program settings range (entry ∷ []) old new (still, tt) (subst (IsLegal (code_of program) settings) (ap (λ (s : Scene). s.journal) is) legal)
@@ -72,7 +72,7 @@ pub record IsBusy (book : TableId) (settings : Settings) (share : Part) : Type 0
   pub unfinished : share.row.a < has_finished
 
 pub noted_busy : (book next_book : TableId) (settings : Settings) (share : Part) (made : Option Entry) (row : Row) → next_book ≡ book → IsProfiler book settings share → share.row.a < has_finished → row.a < has_finished →
-    IsBusy next_book settings (noted share made row)
+    IsBusy next_book settings (share_with share made row)
 noted_busy book next_book settings share None row same it few low = record { profiler = subst (λ b. IsProfiler b settings share) (sym same) it; unfinished = few }
 noted_busy book next_book settings share (Some entry) row same it few low =
     record { profiler = record { its_book = it.its_book ∙ sym same; number = it.number; told = omega arith }; unfinished = low }

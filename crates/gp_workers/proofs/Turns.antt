@@ -10,8 +10,8 @@ use Rattle.gp_journal.specs.declared.settings.Settings.{Settings}
 use Rattle.gp_journal.specs.Actors.{actor_of, made_by}
 use Rattle.gp_journal.specs.May.{is_recorded}
 use Rattle.gp_journal.specs.State.{Code, State}
-use Rattle.gp_profiler.specs.Calls.{entered}
-use Rattle.gp_world.specs.Calls.{may_not_start, over_by_record, entries_recorded, start_entries}
+use Rattle.gp_profiler.specs.Calls.{with_entry}
+use Rattle.gp_world.specs.Calls.{may_not_start, over_by_record, entries_with, start_entries}
 use Rattle.gp_world.specs.Scene.{Scene}
 use Rattle.gp_workers.specs.kept.Turns.{is_record, is_other, AreOfOneTurn, TakesOneTurn}
 
@@ -29,7 +29,7 @@ pub one_made : (old new : List Entry) (entry : Entry) → new ≡ old ++ entry �
 one_made old new entry grown = record { made = entry ∷ []; grown = grown; one_turn = one_entry entry }
 
 -- A call of the profiler makes one or none.
-pub entered_made : (old new : Scene) (made : Option Entry) → new ≡ entered old made → TakesOneTurn old.journal new.journal
+pub entered_made : (old new : Scene) (made : Option Entry) → new ≡ with_entry old made → TakesOneTurn old.journal new.journal
 entered_made old new None is = none_made old.journal new.journal (ap (λ (s : Scene). s.journal) is)
 entered_made old new (Some entry) is = one_made old.journal new.journal entry (ap (λ (s : Scene). s.journal) is)
 
@@ -41,11 +41,11 @@ start_made code settings s w g copy = by (may_not_start settings s) (is_recorded
     recorded true = one_entry (Record w g)
     recorded false = record { one_record = omega arith; one_other = omega arith }
 
-    with_copy : (c : Option Copy) → AreOfOneTurn (entries_recorded code settings s w g c)
+    with_copy : (c : Option Copy) → AreOfOneTurn (entries_with code settings s w g c)
     with_copy None = no_entry
     with_copy (Some c) = recorded (over_by_record code settings s w g)
 
-    by : (not_now has : Bool) → AreOfOneTurn (if not_now then [] else if has then Start w g ∷ [] else entries_recorded code settings s w g copy)
+    by : (not_now has : Bool) → AreOfOneTurn (if not_now then [] else if has then Start w g ∷ [] else entries_with code settings s w g copy)
     by true has = no_entry
     by false true = one_entry (Start w g)
     by false false = with_copy copy

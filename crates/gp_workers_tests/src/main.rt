@@ -4,8 +4,8 @@
 //! each once; the sums of waits; the samples; the numbers of each actor.
 //!
 //! In `held.txt` gates hold a worker until the other one has gone on, and the profiler until workers have gone on while a profile
-//! is open: only where threads really run, and run while a profile is taken, do these gates open. In `read.txt` a gate holds the worker behind each
-//! sample until the reader has taken it: only where the reader reads while the worker runs does it open.
+//! is open: only where threads really run, and run while a profile is taken, do these gates open. In `read.txt` a gate holds the
+//! worker behind each sample until the reader has taken it: only where the reader reads while the worker runs does it open.
 #![tactic(auto)]
 
 mod gates;

@@ -334,7 +334,8 @@ module _ (program : Parts) (settings : Settings) (journal : List Entry) (line : 
   -- ---- who is born
 
   -- The body that is handed out for one that is born was the last of those left.
-  handed : (left : List Body) (spare : Option Body) (told_it : Applied) → told_it ≡ told → HandsOut told_it unborn left spare → (length left + born_by told_it ≡ length unborn) × ((AllByRecursion (HasRoom program) left) × IsSpare program told_it spare)
+  handed : (left : List Body) (spare : Option Body) (told_it : Applied) → told_it ≡ told → HandsOut told_it unborn left spare
+      → (length left + born_by told_it ≡ length unborn) × ((AllByRecursion (HasRoom program) left) × IsSpare program told_it spare)
   handed left (Some body) (Born h died) same is =
       let parts = all_but_last program left body (subst (AllByRecursion (HasRoom program)) is it.its_unborn.vacant) in
       (sym (length_push left body) ∙ ap length (sym is), (parts.0, parts.1))

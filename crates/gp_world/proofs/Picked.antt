@@ -19,7 +19,7 @@ use Rattle.gp_ring.specs.PlainRing.{PlainRing}
 use Rattle.gp_tally.specs.declared.row.Row.{Row}
 use Rattle.gp_world.specs.declared.world.Numbers.{Numbers}
 use Rattle.gp_world.specs.declared.pick.Pick.TheVariants as pick
-use Rattle.gp_world.specs.Calls.{picked}
+use Rattle.gp_world.specs.Calls.{pick_of}
 use Rattle.gp_world.specs.Rows.{blank, row_of, has_nothing, has_picked, runs_one, is_done, has_finished, on_of}
 use Rattle.gp_world.specs.kept.World.{IsWorld, TellsProfiles, IsRingOf, picks, picks_by}
 use Rattle.gp_world.specs.kept.Workers.{HasPicked}
@@ -27,11 +27,11 @@ use Rattle.gp_world.proofs.Picks.{picks_set}
 
 -- What a pick answers, where the run isn't over and no profile is asked for.
 pub picked_head : (settings : Settings) (s : State) (waiting : List ℕ) (g : ℕ) → over settings s ≡ false → asked settings s ≡ false → head_of waiting ≡ Some g →
-    picked settings s waiting ≡ pick.Go g s.active
+    pick_of settings s waiting ≡ pick.Go g s.active
 picked_head settings s [] g going none head = absurd (cc)
 picked_head settings s (h ∷ rest) g going none head = rw (going, none) (ap (λ k. pick.Go k s.active) (same_Some h g head))
 
-pub picked_nobody : (settings : Settings) (s : State) (waiting : List ℕ) → over settings s ≡ false → asked settings s ≡ false → head_of waiting ≡ None → picked settings s waiting ≡ pick.Idle
+pub picked_nobody : (settings : Settings) (s : State) (waiting : List ℕ) → over settings s ≡ false → asked settings s ≡ false → head_of waiting ≡ None → pick_of settings s waiting ≡ pick.Idle
 picked_nobody settings s [] going none head = rw (going, none) refl
 picked_nobody settings s (h ∷ rest) going none head = absurd (cc)
 

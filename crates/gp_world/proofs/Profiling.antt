@@ -150,7 +150,8 @@ module _ (program : Parts) (settings : Settings) (journal : List Entry) (line : 
     first_same : ((get_or (set rows actor new) settings.workers blank).a ≡ (get_or rows settings.workers blank).a) × ((get_or (set rows actor new) settings.workers blank).b ≡ (get_or rows settings.workers blank).b)
     first_same = by (cases_eq settings.workers actor)
       where
-        by : (settings.workers ≡ actor) ⊎ (settings.workers ≡ actor → ⊥) → ((get_or (set rows actor new) settings.workers blank).a ≡ (get_or rows settings.workers blank).a) × ((get_or (set rows actor new) settings.workers blank).b ≡ (get_or rows settings.workers blank).b)
+        by : (settings.workers ≡ actor) ⊎ (settings.workers ≡ actor → ⊥)
+            → ((get_or (set rows actor new) settings.workers blank).a ≡ (get_or rows settings.workers blank).a) × ((get_or (set rows actor new) settings.workers blank).b ≡ (get_or rows settings.workers blank).b)
         by (inl same) =
             let here = ap (λ n. get_or (set rows actor new) n blank) same ∙ get_or-set_same rows actor new blank within in
             let was = ap (λ n. get_or rows n blank) (sym same) in

@@ -37,20 +37,20 @@ first_of epoch [] = pick.Idle
 first_of epoch (g ∷ rest) = pick.Go g epoch
 
 -- The run is over; or a profile is asked for, or nobody waits; or the first of those that wait is picked.
-abbrev pub picked : Settings → State → List ℕ → Pick
-picked settings state waiting =
+abbrev pub pick_of : Settings → State → List ℕ → Pick
+pick_of settings state waiting =
     if over settings state then pick.Over else if asked settings state then pick.Idle else first_of state.active waiting
 
 -- who waits behind it
-abbrev pub behind_pick : Pick → List ℕ → List ℕ
-behind_pick (pick.Go g epoch) waiting = drop 1 waiting
-behind_pick _ waiting = waiting
+abbrev pub waiting_after_pick : Pick → List ℕ → List ℕ
+waiting_after_pick (pick.Go g epoch) waiting = drop 1 waiting
+waiting_after_pick _ waiting = waiting
 
 -- and the worker's row
-abbrev pub row_picked : Parts → Settings → List Entry → ℕ → Row → Pick → Row
-row_picked program settings journal w row (pick.Go g epoch) = row_of program settings journal w has_picked g
-row_picked program settings journal w row pick.Idle = row
-row_picked program settings journal w row pick.Over = row_of program settings journal w is_done 0
+abbrev pub row_after_pick : Parts → Settings → List Entry → ℕ → Row → Pick → Row
+row_after_pick program settings journal w row (pick.Go g epoch) = row_of program settings journal w has_picked g
+row_after_pick program settings journal w row pick.Idle = row
+row_after_pick program settings journal w row pick.Over = row_of program settings journal w is_done 0
 
 -- ---- start
 
@@ -63,9 +63,9 @@ abbrev pub over_by_record : Code → Settings → State → ℕ → ℕ → Bool
 over_by_record code settings state w g = over settings (after code settings state (Record w g))
 
 -- the answer where g has still to be recorded
-abbrev pub begun_recorded : Code → Settings → State → ℕ → ℕ → Option Copy → Begun
-begun_recorded code settings state w g None = begun.NeedCopy state.active
-begun_recorded code settings state w g (Some copy) =
+abbrev pub begun_with : Code → Settings → State → ℕ → ℕ → Option Copy → Begun
+begun_with code settings state w g None = begun.NeedCopy state.active
+begun_with code settings state w g (Some copy) =
     if over_by_record code settings state w g then begun.NotNow None state.active else begun.Started state.active
 
 -- What a start of g on w answers.
@@ -73,30 +73,30 @@ abbrev pub begun_of : Code → Settings → State → ℕ → ℕ → Option Cop
 begun_of code settings state w g copy =
     if may_not_start settings state then begun.NotNow copy (goroutine state g).epoch
     else if is_recorded state g then begun.Started (goroutine state g).epoch
-    else begun_recorded code settings state w g copy
+    else begun_with code settings state w g copy
 
 -- The entries that it makes: a Start, behind a Record where g has still to be recorded.
-abbrev pub entries_recorded : Code → Settings → State → ℕ → ℕ → Option Copy → List Entry
-entries_recorded code settings state w g None = []
-entries_recorded code settings state w g (Some copy) =
+abbrev pub entries_with : Code → Settings → State → ℕ → ℕ → Option Copy → List Entry
+entries_with code settings state w g None = []
+entries_with code settings state w g (Some copy) =
     if over_by_record code settings state w g then Record w g ∷ [] else Record w g ∷ Start w g ∷ []
 
 abbrev pub start_entries : Code → Settings → State → ℕ → ℕ → Option Copy → List Entry
 start_entries code settings state w g copy =
     if may_not_start settings state then []
     else if is_recorded state g then Start w g ∷ []
-    else entries_recorded code settings state w g copy
+    else entries_with code settings state w g copy
 
 -- who waits behind it: where g isn't started now it stands at the head again
-abbrev pub behind_start : Begun → ℕ → List ℕ → List ℕ
-behind_start (begun.NotNow copy epoch) g waiting = g ∷ waiting
-behind_start _ g waiting = waiting
+abbrev pub waiting_after_start : Begun → ℕ → List ℕ → List ℕ
+waiting_after_start (begun.NotNow copy epoch) g waiting = g ∷ waiting
+waiting_after_start _ g waiting = waiting
 
 -- and the worker's row, by the journal behind it
-abbrev pub row_begun : Parts → Settings → List Entry → ℕ → ℕ → Begun → Row
-row_begun program settings journal w g (begun.NotNow copy epoch) = row_of program settings journal w has_nothing 0
-row_begun program settings journal w g (begun.NeedCopy epoch) = row_of program settings journal w has_picked g
-row_begun program settings journal w g (begun.Started epoch) = row_of program settings journal w runs_one g
+abbrev pub row_after_start : Parts → Settings → List Entry → ℕ → ℕ → Begun → Row
+row_after_start program settings journal w g (begun.NotNow copy epoch) = row_of program settings journal w has_nothing 0
+row_after_start program settings journal w g (begun.NeedCopy epoch) = row_of program settings journal w has_picked g
+row_after_start program settings journal w g (begun.Started epoch) = row_of program settings journal w runs_one g
 
 -- ---- step
 

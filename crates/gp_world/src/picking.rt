@@ -3,7 +3,7 @@ ghost use Rattle.std.specs.Prelude.{◌≡◌, ◌<◌, ◌∷◌, drop, Some};
 ghost use Rattle.gp_journal.specs.Run.{state_of};
 ghost use Rattle.gp_journal.specs.Standing.{head_of};
 ghost use Rattle.gp_world.specs.declared.pick.Pick.TheVariants as pick;
-ghost use Rattle.gp_world.specs.Calls.{picked, behind_pick, row_picked};
+ghost use Rattle.gp_world.specs.Calls.{pick_of, waiting_after_pick, row_after_pick};
 ghost use Rattle.gp_world.specs.Rows.{row_of, has_nothing, has_picked};
 
 use crate::actor_rows::{DONE, NOTHING, PICKED, worker_with};
@@ -19,9 +19,11 @@ impl<R: Run> World<R> {
         requires book { who.old.book ≡ self.old.book }
         requires worker { who.old.number < R.settings.workers }
         requires nothing { who.old.row.a ≡ has_nothing }
-        ensures answer { result ≡ picked R.settings (state_of R.program R.settings self.old.journal) self.old.waiting }
-        ensures scene { self.new ≡ record self.old { waiting = behind_pick result self.old.waiting } }
-        ensures share { who.new ≡ record who.old { row = row_picked R.program R.settings self.old.journal who.old.number who.old.row result } }
+        ensures answer { result ≡ pick_of R.settings (state_of R.program R.settings self.old.journal) self.old.waiting }
+        ensures scene { self.new ≡ record self.old { waiting = waiting_after_pick result self.old.waiting } }
+        ensures share { who.new ≡ record who.old {
+          row = row_after_pick R.program R.settings self.old.journal who.old.number who.old.row result;
+        } }
     {
         if self.over() {
             let row = worker_with(self.history.machine(), who.number(), DONE, 0);

@@ -7,7 +7,7 @@ ghost use Rattle.gp_journal.specs.Run.{state_of};
 ghost use Rattle.gp_journal.specs.State.{code_of, goroutine, is_live};
 ghost use Rattle.gp_world.specs.declared.begun.Begun.TheVariants as begun;
 ghost use Rattle.gp_world.specs.kept.Workers.{HasPicked};
-ghost use Rattle.gp_world.specs.Calls.{may_not_start, begun_of, begun_recorded, start_entries, entries_recorded, behind_start, row_begun};
+ghost use Rattle.gp_world.specs.Calls.{may_not_start, begun_of, begun_with, start_entries, entries_with, waiting_after_start, row_after_start};
 ghost use Rattle.gp_world.specs.Rows.{row_of, has_picked, runs_one};
 
 use crate::begun::Begun;
@@ -65,14 +65,14 @@ impl<R: Run> World<R> {
         requires may { may_not_start R.settings (state_of R.program R.settings self.old.journal) ≡ false }
         requires unrecorded { condition.is_recorded (state_of R.program R.settings self.old.journal) g ≡ false }
         requires copy { copy ≡ row (code_of R.program) g (goroutine (state_of R.program R.settings self.old.journal) g) }
-        ensures answer { result ≡ begun_recorded (code_of R.program) R.settings (state_of R.program R.settings self.old.journal)
+        ensures answer { result ≡ begun_with (code_of R.program) R.settings (state_of R.program R.settings self.old.journal)
             who.old.number g (Some copy) }
         ensures scene { self.new ≡ record self.old {
-          journal = self.old.journal ++ entries_recorded (code_of R.program) R.settings
+          journal = self.old.journal ++ entries_with (code_of R.program) R.settings
               (state_of R.program R.settings self.old.journal) who.old.number g (Some copy);
-          waiting = behind_start result g self.old.waiting;
+          waiting = waiting_after_start result g self.old.waiting;
         } }
-        ensures share { who.new ≡ record who.old { row = row_begun R.program R.settings self.new.journal who.old.number g result } }
+        ensures share { who.new ≡ record who.old { row = row_after_start R.program R.settings self.new.journal who.old.number g result } }
         ensures body { body.new ≡ body.old }
     {
         let epoch = self.history.machine().active();
@@ -102,9 +102,9 @@ impl<R: Run> World<R> {
         ensures scene { self.new ≡ record self.old {
           journal = self.old.journal ++ start_entries (code_of R.program) R.settings
               (state_of R.program R.settings self.old.journal) who.old.number g copy;
-          waiting = behind_start result g self.old.waiting;
+          waiting = waiting_after_start result g self.old.waiting;
         } }
-        ensures share { who.new ≡ record who.old { row = row_begun R.program R.settings self.new.journal who.old.number g result } }
+        ensures share { who.new ≡ record who.old { row = row_after_start R.program R.settings self.new.journal who.old.number g result } }
         ensures body { body.new ≡ body.old }
     {
         if self.asked() || self.over() {
@@ -142,10 +142,10 @@ impl<R: Run> World<R> {
         ensures scene { self.new ≡ record self.old {
           journal = self.old.journal ++ start_entries (code_of R.program) R.settings
               (state_of R.program R.settings self.old.journal) who.old.number who.old.row.b copy;
-          waiting = behind_start result who.old.row.b self.old.waiting;
+          waiting = waiting_after_start result who.old.row.b self.old.waiting;
         } }
         ensures share { who.new ≡ record who.old {
-          row = row_begun R.program R.settings self.new.journal who.old.number who.old.row.b result;
+          row = row_after_start R.program R.settings self.new.journal who.old.number who.old.row.b result;
         } }
         ensures body { body.new ≡ body.old }
     {

@@ -8,7 +8,7 @@ use Rattle.gp_tally.specs.Rows.{Part}
 use Rattle.gp_tally.specs.declared.row.Row.{Row}
 use Rattle.gp_world.specs.Rows.{share_of}
 use Rattle.gp_world.specs.Scene.{Scene}
-use Rattle.gp_profiler.specs.Calls.{entered, noted}
+use Rattle.gp_profiler.specs.Calls.{with_entry, share_with}
 use Rattle.gp_world_tests.specs.Playing.{IsOf, Keeps}
 
 -- where both are told
@@ -19,10 +19,10 @@ keeps old new told was who note scene share same its = record {
 }
 
 -- by one entry of the profiler's calls, or none
-pub keeps_entered : (old new : Scene) (was who : Part) (made : Option Entry) (row : Row) → new ≡ entered old made → who ≡ noted was made row → Keeps old new was who
+pub keeps_entered : (old new : Scene) (was who : Part) (made : Option Entry) (row : Row) → new ≡ with_entry old made → who ≡ share_with was made row → Keeps old new was who
 keeps_entered old new was who None row scene share = keeps old new old was who was scene share refl refl
 keeps_entered old new was who (Some entry) row scene share =
-    keeps old new (entered old (Some entry)) was who (noted was (Some entry) row) scene share refl refl
+    keeps old new (with_entry old (Some entry)) was who (share_with was (Some entry) row) scene share refl refl
 
 -- Shares that are issued are of their book.
 pub issued : (book : TableId) (numbers : List ℕ) → AllByRecursion (IsOf book) (map (share_of book) numbers)

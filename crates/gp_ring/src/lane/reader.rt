@@ -39,7 +39,8 @@ impl Model for LaneReader {
     ghost view = { λ x. reader_end (lane_of (arc_value x.table).shared.table_id x.hdrsize x.sizes.len x.sizes.tags) x.seat.me.0 };
 
     ghost invariant = { λ x. IsReader (arc_value x.table).shared.table_id x.seat.table_id x.seat.me x.sizes.len x.sizes.tags
-        x.r x.w x.words.items x.labels.items × HasLooked x.seat.me.0 x.w × (x.sizes.len ≤ vec_capacity x.words) × (x.sizes.tags ≤ vec_capacity x.labels) };
+        x.r x.w x.words.items x.labels.items × HasLooked x.seat.me.0 x.w × (x.sizes.len ≤ vec_capacity x.words)
+        × (x.sizes.tags ≤ vec_capacity x.labels) };
 }
 
 impl LaneReader {

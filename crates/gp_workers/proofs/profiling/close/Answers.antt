@@ -1,7 +1,7 @@
 use Rattle.std.proofs.Common.{ap, sym, ◌∙◌, subst}
 use Rattle.gp_journal.specs.Run.{IsLegal}
 use Rattle.gp_journal.specs.State.{code_of}
-use Rattle.gp_profiler.specs.Calls.{entered, closing_entry}
+use Rattle.gp_profiler.specs.Calls.{with_entry, closing_entry}
 use Rattle.gp_world.specs.Scene.{Scene}
 use Rattle.gp_workers.proofs.ProfilerKeeps.{closing_still, entered_leaves}
 use Rattle.gp_workers.proofs.Turns.{entered_made}
@@ -20,6 +20,6 @@ returns-in-Closed-clause-entries g c =
 pub returns-in-Missing-clause-went : goal.returns-in-Missing-clause-went
 returns-in-Missing-clause-went g c =
     let code = code_of g.R.Run.program in let settings = g.R.Run.settings in let old = c.args.world.now in let it = c.close_profile-closing in
-    let same = it.ensures.scene ∙ ap (λ closing. entered old (closing_entry closing)) c.in-Missing.is in
+    let same = it.ensures.scene ∙ ap (λ closing. with_entry old (closing_entry closing)) c.in-Missing.is in
     let legal = subst (λ (w : Scene). IsLegal code settings w.journal) same c.machine.ensures.legal in
     absurd (none_missing code settings old.journal legal c.requires.active c.requires.recorded _ _ (sym c.in-Missing.is ∙ it.ensures.answer))

@@ -66,9 +66,11 @@ returns-clause-taken c = λ fields e.
 pub returns-clause-fine : goal.returns-clause-fine
 unfolding profile_check
 returns-clause-fine c =
-    rw (c.in_ok-take_messages.ensures.fine, c.in_ok-take_messages-2.ensures.fine, c.in_ok-take_messages-3.ensures.fine, c.in_ok-take_messages-4.ensures.fine, c.in_ok-take_texts.ensures.fine, c.in_ok-take_merged.ensures.fine) (fine_of-last c.pass_numbers.result _ c.pass_numbers.ensures.fine)
+    rw (c.in_ok-take_messages.ensures.fine, c.in_ok-take_messages-2.ensures.fine, c.in_ok-take_messages-3.ensures.fine, c.in_ok-take_messages-4.ensures.fine, c.in_ok-take_texts.ensures.fine, c.in_ok-take_merged.ensures.fine)
+    (fine_of-last c.pass_numbers.result _ c.pass_numbers.ensures.fine)
 
 pub returns-clause-fault : goal.returns-clause-fault
 unfolding profile_check
 returns-clause-fault c =
-    rw (c.in_ok-take_messages.ensures.fine, c.in_ok-take_messages-2.ensures.fine, c.in_ok-take_messages-3.ensures.fine, c.in_ok-take_messages-4.ensures.fine, c.in_ok-take_texts.ensures.fine, c.in_ok-take_merged.ensures.fine) (stops_of-last c.pass_numbers.result _ c.pass_numbers.ensures.fault)
+    rw (c.in_ok-take_messages.ensures.fine, c.in_ok-take_messages-2.ensures.fine, c.in_ok-take_messages-3.ensures.fine, c.in_ok-take_messages-4.ensures.fine, c.in_ok-take_texts.ensures.fine, c.in_ok-take_merged.ensures.fine)
+    (stops_of-last c.pass_numbers.result _ c.pass_numbers.ensures.fault)

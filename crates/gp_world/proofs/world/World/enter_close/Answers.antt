@@ -22,7 +22,8 @@ profiler_row-row-requires-clause-no_more g c =
     let epoch = c.active-epoch.ensures ∙ ap (λ j. (state_of g.R.Run.program g.R.Run.settings j).active) c.machine.ensures in
     let may = subst (May (code_of g.R.Run.program) g.R.Run.settings (state_of g.R.Run.program g.R.Run.settings c.self.inside.history)) (λ i. Close (sym epoch i))
     (subst (λ (s : Scene). May (code_of g.R.Run.program) g.R.Run.settings (state_of g.R.Run.program g.R.Run.settings s.journal) (Close (state_of g.R.Run.program g.R.Run.settings s.journal).active)) (sym c.self.view_is) c.requires.may) in
-    rw (c.machine-2.ensures, c.close.ensures) (workers_then g.R.Run.program g.R.Run.settings c.self.inside.history c.self.inside.waiting c.self.inside.ring c.self.inside.book.rows c.self.inside.unborn.items c.self.inside.numbers c.self.invariant made may)
+    rw (c.machine-2.ensures, c.close.ensures)
+    (workers_then g.R.Run.program g.R.Run.settings c.self.inside.history c.self.inside.waiting c.self.inside.ring c.self.inside.book.rows c.self.inside.unborn.items c.self.inside.numbers c.self.invariant made may)
 
 pub invariant_of-self : goal.invariant_of-self
 invariant_of-self g c =
@@ -31,5 +32,6 @@ invariant_of-self g c =
     let may = subst (May (code_of g.R.Run.program) g.R.Run.settings (state_of g.R.Run.program g.R.Run.settings c.self.inside.history)) (λ i. Close (sym epoch i))
     (subst (λ (s : Scene). May (code_of g.R.Run.program) g.R.Run.settings (state_of g.R.Run.program g.R.Run.settings s.journal) (Close (state_of g.R.Run.program g.R.Run.settings s.journal).active)) (sym c.self.view_is) c.requires.may) in
     rw (c.set.ensures.rows, c.requires.profiler, c.profiler_row-row.ensures, c.machine-2.ensures, c.close.ensures)
-    (profiler_enters g.R.Run.program g.R.Run.settings c.self.inside.history c.self.inside.waiting c.self.inside.ring c.self.inside.book.rows c.self.inside.unborn.items c.self.inside.numbers c.self.invariant made may c.self.inside.numbers refl (close_queue (code_of g.R.Run.program) g.R.Run.settings (state_of g.R.Run.program g.R.Run.settings c.self.inside.history) c.active-epoch.result) refl refl
+    (profiler_enters g.R.Run.program g.R.Run.settings c.self.inside.history c.self.inside.waiting c.self.inside.ring c.self.inside.book.rows c.self.inside.unborn.items c.self.inside.numbers c.self.invariant made may c.self.inside.numbers refl
+    (close_queue (code_of g.R.Run.program) g.R.Run.settings (state_of g.R.Run.program g.R.Run.settings c.self.inside.history) c.active-epoch.result) refl refl
     (numbers_then g.R.Run.program g.R.Run.settings c.self.inside.history c.self.inside.waiting c.self.inside.ring c.self.inside.book.rows c.self.inside.unborn.items c.self.inside.numbers c.self.invariant made may tt))

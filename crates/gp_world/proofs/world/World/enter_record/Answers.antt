@@ -24,7 +24,8 @@ invariant_of-self g c =
     let few : c.args.who.now.number ≤ g.R.Run.settings.workers = let one = is_actor g.R.Run.program g.R.Run.settings c.self.inside.history c.self.inside.waiting c.self.inside.ring c.self.inside.book.rows c.self.inside.unborn.items c.self.inside.numbers c.self.invariant c.args.who.now.number c.args.who.now.row c.set.ensures.agree in omega arith in
     rw (c.set.ensures.rows, c.actor_with-row.ensures, c.machine.ensures, c.record.ensures, c.row-was.ensures, c.number-actor.ensures)
     (subst (λ (r : Row). IsWorld g.R.Run.program g.R.Run.settings (c.self.inside.history ++ Record c.args.who.now.number c.args.copy.g ∷ []) c.self.inside.waiting c.self.inside.ring
-    (set c.self.inside.book.rows c.args.who.now.number (row_of g.R.Run.program g.R.Run.settings (c.self.inside.history ++ Record c.args.who.now.number c.args.copy.g ∷ []) c.args.who.now.number r.a r.b)) c.self.inside.unborn.items c.self.inside.numbers) row_is
+    (set c.self.inside.book.rows c.args.who.now.number
+    (row_of g.R.Run.program g.R.Run.settings (c.self.inside.history ++ Record c.args.who.now.number c.args.copy.g ∷ []) c.args.who.now.number r.a r.b)) c.self.inside.unborn.items c.self.inside.numbers) row_is
     (record_enters g.R.Run.program g.R.Run.settings c.self.inside.history c.self.inside.waiting c.self.inside.ring c.self.inside.book.rows c.self.inside.unborn.items c.self.inside.numbers c.self.invariant c.args.who.now.number c.args.copy.g may few))
 
 pub returns-clause-share : goal.returns-clause-share

@@ -9,7 +9,7 @@ use Rattle.gp_journal.specs.Run.{IsLegal, state_of}
 use Rattle.gp_journal.specs.State.{State, code_of, goroutine}
 use Rattle.gp_world.specs.declared.begun.Begun.{Begun}
 use Rattle.gp_world.specs.declared.begun.Begun.TheVariants as begun
-use Rattle.gp_world.specs.Calls.{may_not_start, behind_start, row_begun}
+use Rattle.gp_world.specs.Calls.{may_not_start, waiting_after_start, row_after_start}
 use Rattle.gp_world.specs.Rows.{row_of, has_nothing, runs_one}
 use Rattle.gp_world.specs.kept.Workers.{HasPicked}
 use Rattle.gp_world.specs.Scene.{Scene}
@@ -104,8 +104,8 @@ returns-clause-scene g c =
     let number = ap (λ (p : Part). p.number) c.enter_record.ensures.share in
     let entries : c.enter_record.new.self.journal ++ entry.Start c.enter_record.new.who.number c.args.g ∷ [] ≡ j ++ entry.Record who.number c.args.g ∷ entry.Start who.number c.args.g ∷ [] =
     (λ i. js i ++ entry.Start (number i) c.args.g ∷ []) ∙ both j (entry.Record who.number c.args.g) (entry.Start who.number c.args.g) in
-    let waits : c.enter_record.new.self.waiting ≡ behind_start c.begin.result c.args.g c.args.self.now.waiting =
-    ap (λ (s : Scene). s.waiting) e ∙ sym (ap (λ (b : Begun). behind_start b c.args.g c.args.self.now.waiting) c.begin.ensures.answer) in
+    let waits : c.enter_record.new.self.waiting ≡ waiting_after_start c.begin.result c.args.g c.args.self.now.waiting =
+    ap (λ (s : Scene). s.waiting) e ∙ sym (ap (λ (b : Begun). waiting_after_start b c.args.g c.args.self.now.waiting) c.begin.ensures.answer) in
     rw going (c.begin.ensures.scene ∙ (λ i. record { book = (e i).book; journal = entries i; waiting = waits i; ring = (e i).ring; failed = (e i).failed }))
 
 pub returns-clause-share : goal.returns-clause-share
@@ -113,6 +113,6 @@ returns-clause-share g c =
     let P = g.R.Run.program in let S = g.R.Run.settings in let who = c.args.who.now in
     let e = c.enter_record.ensures.share in
     let j = c.begin.new.self.journal in
-    let row : row_of P S j c.enter_record.new.who.number runs_one c.args.g ≡ row_begun P S j who.number c.args.g c.begin.result =
-    ap (λ (p : Part). row_of P S j p.number runs_one c.args.g) e ∙ sym (ap (λ (b : Begun). row_begun P S j who.number c.args.g b) c.begin.ensures.answer) in
+    let row : row_of P S j c.enter_record.new.who.number runs_one c.args.g ≡ row_after_start P S j who.number c.args.g c.begin.result =
+    ap (λ (p : Part). row_of P S j p.number runs_one c.args.g) e ∙ sym (ap (λ (b : Begun). row_after_start P S j who.number c.args.g b) c.begin.ensures.answer) in
     c.begin.ensures.share ∙ (λ i. record { book = (e i).book; number = (e i).number; row = row i })

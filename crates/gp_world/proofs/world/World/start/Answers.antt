@@ -4,7 +4,7 @@ use Rattle.gp_journal.specs.Frozen.{row}
 use Rattle.gp_journal.specs.Run.{state_of}
 use Rattle.gp_journal.specs.State.{code_of, goroutine}
 use Rattle.gp_tally.specs.Rows.{Part}
-use Rattle.gp_world.specs.Calls.{begun_of, start_entries, behind_start, row_begun}
+use Rattle.gp_world.specs.Calls.{begun_of, start_entries, waiting_after_start, row_after_start}
 use Rattle.gp_world.specs.kept.Workers.{HasPicked}
 use Rattle.gp_world.specs.Scene.{Scene}
 use Rattle.gp_world.proofs.world.World.start.Goals as goal
@@ -34,7 +34,7 @@ returns-clause-scene g c =
     c.start_picked.ensures.scene ∙ (λ i. record {
       book = (scene i).book;
       journal = (scene i).journal ++ start_entries (code_of P) S (state_of P S (scene i).journal) (share i).number (one i) c.args.copy;
-      waiting = behind_start c.start_picked.result (one i) (scene i).waiting;
+      waiting = waiting_after_start c.start_picked.result (one i) (scene i).waiting;
       ring = (scene i).ring;
       failed = (scene i).failed;
     })
@@ -46,5 +46,5 @@ returns-clause-share g c =
     c.start_picked.ensures.share ∙ (λ i. record {
       book = (share i).book;
       number = (share i).number;
-      row = row_begun P S c.start_picked.new.self.journal (share i).number (one i) c.start_picked.result;
+      row = row_after_start P S c.start_picked.new.self.journal (share i).number (one i) c.start_picked.result;
     })

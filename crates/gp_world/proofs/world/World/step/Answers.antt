@@ -46,7 +46,8 @@ returns-clause-moved g c =
     let P = g.R.Run.program in let S = g.R.Run.settings in let now = c.run_by-g in
     subst (λ n. OnOk c.make_due.result (progress_of c.make_due.new.body ≡ moved_with P S c.args.self.now (due (code_of P) S (state_of P S c.args.self.now.journal) c.args.who.now.number n) (progress_of c.args.body.now))) now.ensures.g
     (subst (λ (p : Part). OnOk c.make_due.result (progress_of c.make_due.new.body ≡ moved_with P S c.args.self.now (due (code_of P) S (state_of P S c.args.self.now.journal) p.number now.result) (progress_of c.args.body.now))) now.ensures.share
-    (subst (λ (s : Scene). OnOk c.make_due.result (progress_of c.make_due.new.body ≡ moved_with P S s (due (code_of P) S (state_of P S s.journal) now.new.who.number now.result) (progress_of c.args.body.now))) now.ensures.scene c.make_due.ensures.moved))
+    (subst (λ (s : Scene). OnOk c.make_due.result
+    (progress_of c.make_due.new.body ≡ moved_with P S s (due (code_of P) S (state_of P S s.journal) now.new.who.number now.result) (progress_of c.args.body.now))) now.ensures.scene c.make_due.ensures.moved))
 
 pub returns-clause-memory : goal.returns-clause-memory
 returns-clause-memory g c =
