@@ -1,0 +1,16 @@
+pub mod Turns
+pub mod Lists
+pub mod Cells
+pub mod Pasts
+pub mod Frozens
+pub mod Keeps
+pub mod Steps
+pub mod Entries
+pub mod AllEvents
+pub mod Admits
+pub mod WorkedEventsLemmas
+pub mod Workers
+pub mod Beginnings
+pub mod Fits
+pub mod Running
+pub mod Along

@@ -1,0 +1,26 @@
+use Rattle.std.proofs.Common.{sym, subst, arith}
+use Rattle.gp_journal.specs.State.{code_of}
+use Rattle.gp_core.specs.declared.event.CoreEvent.TheVariants as event
+use Rattle.gp_core.specs.CoreState.{CoreState}
+use Rattle.gp_core.specs.Enabled.{IsEnabled}
+use Rattle.gp_core.proofs.Running.{actor_within, born_within, buried}
+use Rattle.gp_core.proofs.status_words.Core.bury.Goals as goal
+
+pub index_mut-requires : goal.index_mut-requires
+index_mut-requires g c =
+    let P = g.R.Run.program in let S = g.R.Run.settings in let m = c.self.inside in
+    let may = subst (λ (core : CoreState). IsEnabled (code_of P) S core (event.Bury c.args.w c.args.g)) (sym c.self.view_is) c.requires in
+    let within = born_within P S m.workers m.room m.machine m.words.items m.bodies.items m.hands.items m.copies.items c.self.invariant c.args.g may.is_born in
+    omega (arith, m.words.ok.0, within)
+
+pub index_mut-requires-2 : goal.index_mut-requires-2
+index_mut-requires-2 g c =
+    let P = g.R.Run.program in let S = g.R.Run.settings in let m = c.self.inside in
+    let within = actor_within P S m.workers m.room m.machine m.words.items m.bodies.items m.hands.items m.copies.items c.self.invariant c.args.w (omega arith) in
+    omega (arith, m.hands.ok.0, within)
+
+pub invariant_of-self : goal.invariant_of-self
+invariant_of-self g c =
+    let P = g.R.Run.program in let S = g.R.Run.settings in let m = c.self.inside in
+    buried P S m.workers m.room m.machine m.words.items m.bodies.items m.hands.items m.copies.items c.self.invariant c.args.w c.args.g
+    (subst (λ (core : CoreState). IsEnabled (code_of P) S core (event.Bury c.args.w c.args.g)) (sym c.self.view_is) c.requires)
