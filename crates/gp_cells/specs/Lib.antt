@@ -1,0 +1,9 @@
+pub mod Roster
+pub mod Words
+pub mod Goroutine
+pub mod Hold
+pub mod Held
+pub mod Pass
+pub mod CellArray
+pub mod Answers
+pub mod kept

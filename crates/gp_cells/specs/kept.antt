@@ -1,0 +1,5 @@
+pub mod Views
+pub mod CellRule
+pub mod Plays
+pub mod Hands
+pub mod Refusals
