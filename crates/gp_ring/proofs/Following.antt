@@ -24,10 +24,10 @@ one_pends n t e = ap (λ (b : Bool). if b then [] else Loss n t ∷ []) e
 pub not_zero : (n : ℕ) → 0 < n → (n == 0) ≡ false
 not_zero n h = grind (arith, nat_tests)
 
-above_zero : (n : ℕ) → (n == 0) ≡ false → 0 < n
+pub above_zero : (n : ℕ) → (n == 0) ≡ false → 0 < n
 above_zero n h = grind (arith, nat_tests)
 
-is_zero : (n : ℕ) → (n == 0) ≡ true → n ≡ 0
+pub is_zero : (n : ℕ) → (n == 0) ≡ true → n ≡ 0
 is_zero n h = grind (arith, nat_tests)
 
 pub zero_above : (n : ℕ) → n ≡ 0 → 0 < n → ⊥
@@ -36,11 +36,11 @@ zero_above n e h = omega arith
 pub differ : false ≡ true → ⊥
 differ e = cc
 
-le_is : (a b : ℕ) → a ≤ b → nat_le a b ≡ true
+pub le_is : (a b : ℕ) → a ≤ b → nat_le a b ≡ true
 le_is a b h = grind (arith, nat_tests)
 
 -- one more offer, and records that go on
-begins-next : (h len tags : ℕ) (os : List Offer) (o : Offer) (rs more next : List RingRecord)
+pub begins-next : (h len tags : ℕ) (os : List Offer) (o : Offer) (rs more next : List RingRecord)
     → (rest : List RingRecord) × (samples (head h len tags os) ++ rest ≡ rs) → rs ++ more ≡ next
     → (fit_twice h len tags (os ++ o ∷ []) ≡ true → next ≡ samples (os ++ o ∷ []))
     → (rest : List RingRecord) × (samples (head h len tags (os ++ o ∷ [])) ++ rest ≡ next)
@@ -50,10 +50,10 @@ begins-next h len tags os o rs more next b e f =
       | false ↦ λ k. (b.0 ++ more, ap (λ (xs : List Offer). samples xs ++ (b.0 ++ more)) (head-same h len tags os o k) ∙ sym (append_assoc (samples (head h len tags os)) b.0 more) ∙ ap (λ (xs : List RingRecord). xs ++ more) b.1 ∙ e)
     ] refl
 
-samples-more : (os : List Offer) (o : Offer) → samples (os ++ o ∷ []) ≡ samples os ++ Sample o ∷ []
+pub samples-more : (os : List Offer) (o : Offer) → samples (os ++ o ∷ []) ≡ samples os ++ Sample o ∷ []
 samples-more os o = map-append Sample os (o ∷ [])
 
-fits_less : (h len tags : ℕ) (os : List Offer) (o : Offer) → fit_twice h len tags (os ++ o ∷ []) ≡ true → fit_twice h len tags os ≡ true
+pub fits_less : (h len tags : ℕ) (os : List Offer) (o : Offer) → fit_twice h len tags (os ++ o ∷ []) ≡ true → fit_twice h len tags os ≡ true
 fits_less h len tags os o k =
     let p = fit-parts h len tags (os ++ o ∷ []) k in
     let n = length-append os (o ∷ []) in

@@ -5,6 +5,7 @@ pub mod Follows
 pub mod Offered
 pub mod Shown
 pub mod Counts
-pub mod Ends
-pub mod Answers
+pub mod Course
 pub mod kept
+pub mod TwoEnds
+pub mod Answered

@@ -2,6 +2,6 @@ pub mod Slots
 pub mod Fields
 pub mod Batch
 pub mod Traces
-pub mod Seats
-pub mod LaneRule
-pub mod Sides
+pub mod Views
+pub mod RingRule
+pub mod Halves

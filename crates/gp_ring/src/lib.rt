@@ -26,17 +26,21 @@
 //! `Ring` is for one thread: its words stand in vectors that are taken in `new`. No other call takes memory, and its time
 //! grows with the words that it moves. A batch is handed out where it lies; one that goes over the end of the ring is put
 //! together in a copy.
+//!
+//! **Between two threads** `new` gives the two ends of a ring without a lock, `Writer` and `Reader`, with the same words and the
+//! same rules; `between.rt` has their page. There a write and a read are single steps on the words, which come in any order.
 #![tactic(auto)]
 
+mod between;
 mod emit;
 mod gather;
 mod hand;
-pub mod lane;
 mod laws;
 mod ring;
 mod taken;
 mod wrote;
 
+pub use between::{Closed, Reader, Writer, new};
 pub use laws::law_ring;
 pub use ring::Ring;
 pub use taken::Taken;

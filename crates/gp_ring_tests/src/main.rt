@@ -1,23 +1,23 @@
-//! Cases of the ring of samples, lists of calls in `data/rings.txt`, and of the lane between two threads, in `data/lanes.txt`,
-//! each with what has to come of it, worked out by hand. Then records go through a lane between two threads. With the words WORDS
-//! TAGS RECORDS only these go through one.
+//! Cases of the ring of samples, lists of calls in `data/rings.txt`, and of the two ends of a ring for two threads, in
+//! `data/ends.txt`, each with what has to come of it, worked out by hand. Then samples go through a ring between two threads. With
+//! the words WORDS TAGS SAMPLES only these go through one.
 #![tactic(auto)]
 
 mod driver;
-mod lanes;
+mod ends;
 mod two;
 
 use driver::Driver;
+use ends::{ClosedDriver, EndsDriver};
 use gp_cases::{Page, Teller, Unanswered, number_64, walk, word, words};
-use lanes::LaneDriver;
 use std::alloc::Global;
 use std::env;
 use std::sync::Wait;
 use std::thread::Threads;
 use two::go_through;
 
-/// How many records go through a lane, of how many words and tags.
-const RECORDS: u64 = 1000;
+/// How many samples go through a ring, of how many words and tags.
+const SAMPLES: u64 = 1000;
 
 const WORDS: u64 = 16;
 
@@ -92,95 +92,112 @@ impl Teller for OfRings {
     }
 }
 
-/// Answers cases of lanes.
-struct OfLanes;
+/// Answers cases of the two ends.
+struct OfEnds;
 
-// A lane, given as its header size, its words and its tags.
-fn lane(alloc: Global, text: &str) -> Result<LaneDriver, Unanswered> {
+// A ring's two ends, given as its header size, its words and its tags.
+fn two_ends(alloc: Global, text: &str) -> Result<EndsDriver, Unanswered> {
     let numbers = numbers(alloc, text)?;
     let &[hdrsize, words, tags] = numbers.as_slice() else {
         return Err(Unanswered::Form);
     };
-    LaneDriver::new(alloc, hdrsize, words, tags)
+    EndsDriver::new(alloc, hdrsize, words, tags)
 }
 
-// A push, given as the tag, the time, the header and the stack.
-fn push(
+// A write, given as the tag, the time, the header and the stack.
+fn ends_write(
     alloc: Global,
     page: &mut Page,
-    driver: &mut LaneDriver,
+    driver: &mut EndsDriver,
     text: &str,
 ) -> Result<(), Unanswered> {
     let numbers = numbers(alloc, text)?;
     let &[tag, time, ref rest @ ..] = numbers.as_slice() else {
         return Err(Unanswered::Form);
     };
-    let pushed = driver.push(tag, time, rest).ok_or(Unanswered::Form)?;
-    page.debug("\n", &pushed)?;
+    let wrote = driver.write(tag, time, rest).ok_or(Unanswered::Form)?;
+    page.debug("\n", &wrote)?;
     Ok(())
 }
 
-fn lane_call(
+fn open_call(
     alloc: Global,
     page: &mut Page,
-    driver: &mut LaneDriver,
+    driver: &mut EndsDriver,
     row: &str,
 ) -> Result<(), Unanswered> {
     let (kind, rest) = word(row);
     match kind {
-        "push" => push(alloc, page, driver, rest),
-        "pull" => driver.pull(page),
+        "write" => ends_write(alloc, page, driver, rest),
         "look" => {
             driver.look();
             Ok(())
         }
-        "take" => driver.take(page),
+        "act" => driver.act(page),
+        "read" => driver.read(page),
         "counts" => driver.counts(page),
         _ => Err(Unanswered::Form),
     }
 }
 
-impl Teller for OfLanes {
+// The rows behind the close.
+fn tell_closed(page: &mut Page, driver: ClosedDriver, rows: &[&str]) -> Result<(), Unanswered> {
+    let mut driver = driver;
+    for row in rows {
+        match *row {
+            "look" => driver.look(),
+            "act" => driver.act(page)?,
+            "read" => driver.read(page)?,
+            "settle" => return driver.settle(),
+            _ => return Err(Unanswered::Form),
+        }
+    }
+    Ok(())
+}
+
+impl Teller for OfEnds {
     fn tell(alloc: Global, page: &mut Page, rows: &[&str]) -> Result<(), Unanswered> {
         let (head, rows) = rows.split_first().ok_or(Unanswered::Form)?;
         let (_, sizes) = word(head);
-        let mut driver = lane(alloc, sizes)?;
-        for row in rows {
-            if *row == "settle" {
-                return driver.settle(page);
+        let mut driver = two_ends(alloc, sizes)?;
+        let mut rest = rows;
+        while let Some((row, behind)) = rest.split_first() {
+            rest = behind;
+            if *row == "close" {
+                return tell_closed(page, driver.close(), rest);
             }
-            lane_call(alloc, page, &mut driver, row)?;
+            open_call(alloc, page, &mut driver, row)?;
         }
         Ok(())
     }
 }
 
-// Records go through a lane between two threads. Tells how many came in order.
+// Samples go through a ring between two threads. Tells how many came or were counted lost, in order.
 fn thread_two<R: Threads + Wait + Sync + Print + AllocGlobal>(
     rt: &R,
     words: u64,
     tags: u64,
-    records: u64,
+    samples: u64,
 ) -> Result<(), Unanswered> {
-    if words < 8 || words >= 1 << 28 || tags == 0 || tags >= 1 << 28 || records >= 1 << 28 {
+    if words < 8 || words >= 1 << 28 || tags == 0 || tags >= 1 << 28 || samples >= 1 << 28 {
         return Err(Unanswered::Form);
     }
-    let (_, next) = go_through(rt, rt.alloc(), words as u32, tags as u32, records)?;
-    println!(rt; "two threads: {next} of {records} records in order")?;
+    let (_, next) = go_through(rt, rt.alloc(), words as u32, tags as u32, samples)?;
+    println!(rt; "two threads: {next} of {samples} samples came or were lost, in order")?;
     Ok(())
 }
 
 fn main(rt: HostRuntime) -> Result<(), Unanswered> {
     let words: Vec<String> = env::args(&rt)?.collect(rt.alloc())?;
-    if let [_, words, tags, records] = words.as_slice() {
+    if let [_, words, tags, samples] = words.as_slice() {
         return thread_two(
             &rt,
             number_64(words.as_str())?,
             number_64(tags.as_str())?,
-            number_64(records.as_str())?,
+            number_64(samples.as_str())?,
         );
     }
     walk::<OfRings>(&rt, "rings.txt")?;
-    walk::<OfLanes>(&rt, "lanes.txt")?;
-    thread_two(&rt, WORDS, TAGS, RECORDS)
+    walk::<OfEnds>(&rt, "ends.txt")?;
+    thread_two(&rt, WORDS, TAGS, SAMPLES)
 }

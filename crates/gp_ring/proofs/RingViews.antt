@@ -1,0 +1,239 @@
+-- What the seats of a ring know stays so, when either of them goes on.
+use Rattle.std.proofs.Common.{◌≡◌, ◌≢◌, ◌⊎◌, ℕ, zero, suc, ◌+◌, ◌-◌, ◌%◌, ◌<◌, ◌≤◌, Bool, List, [], ◌∷◌, ◌++◌, length, true, false, true≢false, refl, ap, sym, subst, ◌∙◌, inl, inr, ⊎_elim, append-nil, length-append, arith}
+use Rattle.std.specs.Prelude.{slice_set}
+use mathlib.Core.Option.{some, some-ne-none, some-injective}
+use lib.ListN.{get_elem?}
+use Rattle.std.proofs.lemmas.List.{append_assoc, nil_from_length}
+use Rattle.atomic_table.proofs.Lists.{at_set}
+use Rattle.gp_layout.specs.Words.{words_of, tags_of, count_of, change_of}
+use Rattle.gp_ring.specs.Records.{Offer}
+use Rattle.gp_ring.specs.Counts.{behind_all}
+use Rattle.gp_ring.specs.Course.{Course, kept_of}
+use Rattle.gp_ring.specs.kept.Views.{IsLifted}
+use Rattle.gp_ring.specs.kept.RingRule.{Desk, Past, IsWriterIn, IsReaderIn, IsEarlier, IsStanding, IsSizedAs, Fits, AllFit}
+use Rattle.gp_ring.specs.declared.between.view.View.{View}
+use Rattle.gp_ring.specs.declared.between.view.WriterView.{WriterView}
+use Rattle.gp_ring.specs.declared.between.view.ReaderView.{ReaderView}
+use Rattle.gp_ring.proofs.Tracing.{behind-front}
+
+pub off : false ≡ true → ⊥
+off e = true≢false (sym e)
+
+-- ---- lists of views
+
+pub at_end : (l : List View) (a b : View) (j : ℕ) → get_elem? (l ++ a ∷ []) j ≡ some b → (get_elem? l j ≡ some b) ⊎ ((j ≡ length l) × (a ≡ b))
+at_end [] a b zero e = inr (refl, some-injective a b e)
+at_end [] a b (suc j) e = absurd (some-ne-none b (sym e))
+at_end (x ∷ l) a b zero e = inl e
+at_end (x ∷ l) a b (suc j) e = ⊎_elim (λ t. inl t) (λ t. inr (ap suc t.0, t.1)) (at_end l a b j e)
+
+-- one seat has a new view
+pub all_set : (G : ℕ → View → Type 0) (views : List View) (seat : ℕ) (w : View) → ((j : ℕ) (u : View) → j ≢ seat → get_elem? views j ≡ some u → G j u) → G seat w
+    → (j : ℕ) (u : View) → get_elem? (slice_set views seat w) j ≡ some u → G j u
+all_set G views seat w others mine j u e =
+    ⊎_elim
+    (λ (x : (j ≡ seat) × (w ≡ u)). subst (λ (y : ℕ × View). G y.0 y.1) (λ i. (sym x.0 i, x.1 i)) mine)
+    (λ (x : (j ≢ seat) × (get_elem? views j ≡ some u)). others j u x.0 x.1)
+    (at_set views seat j w u e)
+
+-- another seat isn't the writer's, and another one isn't the reader's
+pub no_writer : (past : Past) (seat j : ℕ) (u : View) → seat ≡ past.writer → j ≢ seat → Fits past j u → u.writes ≡ true → ⊥
+no_writer past seat j u is apart fits w = apart ((fits.writer w).0 ∙ sym is)
+
+pub no_reader : (past : Past) (seat j : ℕ) (u : View) → seat ≡ past.reader → j ≢ seat → Fits past j u → u.reads ≡ true → ⊥
+no_reader past seat j u is apart fits r = apart ((fits.reader r).0 ∙ sym is)
+
+-- the sizes stay
+abbrev pub SameSizes : Course → Course → Type 0
+SameSizes c d = (c.hdrsize ≡ d.hdrsize) × (c.len ≡ d.len) × (c.tags ≡ d.tags)
+
+sized : (c d : Course) (v : View) → SameSizes c d → IsSizedAs c v → IsSizedAs d v
+sized c d v s z = (z.0 ∙ s.0, z.1 ∙ s.1, z.2 ∙ s.2)
+
+-- all views, when the writer goes on
+pub writer_goes : (past : Past) (course : Course) (desk : Desk) (flow : ℕ) (views : List View) (seat : ℕ) (v : View) (writer : WriterView)
+    → SameSizes past.course course → ((r : ReaderView) → IsReaderIn past.course past.flow r → IsReaderIn course flow r)
+    → AllFit past views → get_elem? views seat ≡ some v → v.writes ≡ true → IsWriterIn course desk flow writer
+    → AllFit (record past { course = course; desk = desk; flow = flow }) (slice_set views seat (record v { writer = writer }))
+writer_goes past course desk flow views seat v writer same stays fit at writes new =
+    let f = (fit seat v at).writer writes in
+    all_set (Fits (record past { course = course; desk = desk; flow = flow })) views seat (record v { writer = writer })
+    (λ j u apart there. record {
+      writer = λ w. absurd (no_writer past seat j u f.0 apart (fit j u there) w);
+      reader = λ r. (let g = (fit j u there).reader r in (g.0, sized past.course course u same g.1, stays u.reader g.2));
+    })
+    (record {
+      writer = λ _. (f.0, sized past.course course v same f.1, new);
+      reader = λ r. (let g = (fit seat v at).reader r in (g.0, sized past.course course v same g.1, stays v.reader g.2));
+    })
+
+-- all views, when the reader goes on
+pub reader_goes : (past : Past) (course : Course) (flow : ℕ) (views : List View) (seat : ℕ) (v : View) (reader : ReaderView)
+    → SameSizes past.course course → ((w : WriterView) → IsWriterIn past.course past.desk past.flow w → IsWriterIn course past.desk flow w)
+    → AllFit past views → get_elem? views seat ≡ some v → v.reads ≡ true → IsReaderIn course flow reader
+    → AllFit (record past { course = course; flow = flow }) (slice_set views seat (record v { reader = reader }))
+reader_goes past course flow views seat v reader same stays fit at reads new =
+    let f = (fit seat v at).reader reads in
+    all_set (Fits (record past { course = course; flow = flow })) views seat (record v { reader = reader })
+    (λ j u apart there. record {
+      writer = λ w. (let g = (fit j u there).writer w in (g.0, sized past.course course u same g.1, stays u.writer g.2));
+      reader = λ r. absurd (no_reader past seat j u f.0 apart (fit j u there) r);
+    })
+    (record {
+      writer = λ w. (let g = (fit seat v at).writer w in (g.0, sized past.course course v same g.1, stays v.writer g.2));
+      reader = λ _. (f.0, sized past.course course v same f.1, new);
+    })
+
+-- ---- the reader's knowledge, when the writer goes on
+
+none_stands : (flow overflow : ℕ) → count_of flow ≡ 0 → IsStanding flow overflow → ⊥
+none_stands flow overflow z s = let p = s.some in let e : count_of flow ≡ count_of overflow = ap count_of s.same in omega arith
+
+-- a record lies in the ring
+pub reader-more : (course : Course) (flow : ℕ) (o : Offer) (offers : List Offer) (owed : ℕ) (r : ReaderView) → count_of flow ≡ 0 → course.ended ≡ false → IsReaderIn course flow r
+    → IsReaderIn (record course { offers = offers; unread = course.unread ++ o ∷ []; owed = owed }) flow r
+reader-more course flow o offers owed r quiet is_open f = record {
+  taken = f.taken;
+  pulled = f.pulled;
+  ahead = (f.ahead.0 ++ o ∷ [], sym (append_assoc r.ahead f.ahead.0 (o ∷ [])) ∙ ap (λ (os : List Offer). os ++ o ∷ []) f.ahead.1);
+  due = f.due;
+  due_labels = f.due_labels;
+  earlier = f.earlier;
+  seen = λ s _. absurd (none_stands flow r.overflow quiet s);
+  timed = λ s _. absurd (none_stands flow r.overflow quiet s);
+  end_found = f.end_found;
+  last = f.last;
+  last_seen = λ e _. absurd (off (sym is_open ∙ (f.last e).0));
+  over = λ e. absurd (off (sym is_open ∙ (f.over e).0));
+}
+
+-- the overflow time is set
+pub reader-since : (course : Course) (flow now : ℕ) (r : ReaderView) → count_of flow ≡ 0 → IsReaderIn course flow r → IsReaderIn (record course { since = now }) flow r
+reader-since course flow now r quiet f = record {
+  taken = f.taken;
+  pulled = f.pulled;
+  ahead = f.ahead;
+  due = f.due;
+  due_labels = f.due_labels;
+  earlier = f.earlier;
+  seen = f.seen;
+  timed = λ s _. absurd (none_stands flow r.overflow quiet s);
+  end_found = f.end_found;
+  last = f.last;
+  last_seen = f.last_seen;
+  over = f.over;
+}
+
+-- the end mark is stored
+pub reader-end : (course : Course) (flow : ℕ) (r : ReaderView) → IsReaderIn course flow r → IsReaderIn (record course { ended = true }) flow r
+reader-end course flow r f = record {
+  taken = f.taken;
+  pulled = f.pulled;
+  ahead = f.ahead;
+  due = f.due;
+  due_labels = f.due_labels;
+  earlier = f.earlier;
+  seen = f.seen;
+  timed = f.timed;
+  end_found = λ _. refl;
+  last = λ e. (refl, (f.last e).1);
+  last_seen = f.last_seen;
+  over = λ e. (let o = f.over e in (refl, o.1, o.2));
+}
+
+-- a later overflow word
+pub record IsLater (before now : ℕ) : Type 0 where
+  pub change : change_of before ≤ change_of now
+  pub count : change_of before ≡ change_of now → count_of before < count_of now
+
+later_earlier : (seen flow now : ℕ) → IsEarlier seen flow → IsLater flow now → IsEarlier seen now
+later_earlier seen flow now e l = let a = e.change in let b = l.change in record {
+  change = omega arith;
+  count = λ s. (let x : change_of seen ≡ change_of flow = omega arith in let y : change_of flow ≡ change_of now = omega arith in let p = e.count x in let q = l.count y in omega arith);
+}
+
+pub later_differs : (seen flow now : ℕ) → IsEarlier seen flow → IsLater flow now → now ≡ seen → ⊥
+later_differs seen flow now e l s =
+    let a = e.change in
+    let b = l.change in
+    let c : change_of now ≡ change_of seen = ap change_of s in
+    let d : count_of now ≡ count_of seen = ap count_of s in
+    let x : change_of seen ≡ change_of flow = omega arith in
+    let y : change_of flow ≡ change_of now = omega arith in
+    let p = e.count x in
+    let q = l.count y in
+    omega arith
+
+-- overflow becomes a later word, by the writer
+pub reader-flow : (course : Course) (flow now : ℕ) (offers : List Offer) (pending change owed : ℕ) (r : ReaderView) → course.ended ≡ false → IsLater flow now → IsReaderIn course flow r
+    → IsReaderIn (record course { offers = offers; pending = pending; change = change; owed = owed }) now r
+reader-flow course flow now offers pending change owed r is_open later f =
+    let differs : now ≡ r.overflow → ⊥ = later_differs r.overflow flow now f.earlier later in
+    record {
+      taken = f.taken;
+      pulled = f.pulled;
+      ahead = f.ahead;
+      due = f.due;
+      due_labels = f.due_labels;
+      earlier = later_earlier r.overflow flow now f.earlier later;
+      seen = λ s _. absurd (differs s.same);
+      timed = λ s _. absurd (differs s.same);
+      end_found = f.end_found;
+      last = λ e. absurd (off (sym is_open ∙ (f.last e).0));
+      last_seen = f.last_seen;
+      over = λ e. absurd (off (sym is_open ∙ (f.over e).0));
+    }
+
+-- ---- the writer's knowledge, when the reader goes on
+
+-- a batch is taken
+pub writer-batch : (course : Course) (desk : Desk) (flow : ℕ) (ahead rest taken : List Offer) (w : WriterView) → ahead ++ rest ≡ course.unread → IsWriterIn course desk flow w
+    → IsWriterIn (record course { taken = taken; pulled = course.pulled ++ ahead; unread = rest }) desk flow w
+writer-batch course desk flow ahead rest taken w e f =
+    let m = behind-front course.len 0 course.pulled ahead in
+    let l = length-append course.pulled ahead in
+    let r = f.read_words in
+    let t = f.read_tags in
+    record {
+      offers = f.offers;
+      kept = f.kept ∙ ap (λ (os : List Offer). course.pulled ++ os) (sym e) ∙ sym (append_assoc course.pulled ahead rest);
+      draft = f.draft;
+      next = f.next;
+      label = f.label;
+      next_label = f.next_label;
+      since = f.since;
+      owed = f.owed;
+      closed = f.closed;
+      flow_is = f.flow_is;
+      read_words = omega arith;
+      read_tags = omega arith;
+    }
+
+-- the loss is taken
+pub writer-lifted : (course : Course) (desk : Desk) (flow now : ℕ) (taken : List Offer) (pending change : ℕ) (w : WriterView)
+    → 0 < count_of flow → count_of now ≡ 0 → change_of now ≡ change_of flow + 1 → IsWriterIn course desk flow w
+    → IsWriterIn (record course { taken = taken; pending = pending; change = change }) desk now w
+writer-lifted course desk flow now taken pending change w pos none next f = record {
+  offers = f.offers;
+  kept = f.kept;
+  draft = f.draft;
+  next = f.next;
+  label = f.label;
+  next_label = f.next_label;
+  since = f.since;
+  owed = f.owed;
+  closed = f.closed;
+  flow_is = ⊎_elim
+      (λ (e : flow ≡ w.flow). inr (subst (λ (k : ℕ). 0 < count_of k) e pos, none, next ∙ ap (λ (k : ℕ). change_of k + 1) e))
+      (λ (l : IsLifted w.flow flow). (let z : count_of flow ≡ 0 = l.1 in absurd (omega arith)))
+      f.flow_is;
+  read_words = f.read_words;
+  read_tags = f.read_tags;
+}
+
+-- what is taken as a whole
+pub none_left : (ahead rest unread : List Offer) → ahead ++ rest ≡ unread → ahead ≡ unread → rest ≡ []
+none_left ahead rest unread e s =
+    let a : length ahead + length rest ≡ length unread = sym (length-append ahead rest) ∙ ap length e in
+    let b : length ahead ≡ length unread = ap length s in
+    nil_from_length rest (omega arith)

@@ -1,0 +1,10 @@
+use Rattle.std.proofs.Common.{arith}
+use mathlib.Core.Option.{none}
+use Rattle.atomic_table.specs.Table.{step}
+use Rattle.gp_ring.proofs.RingSteps.{loads_overflow}
+use Rattle.gp_ring.proofs.between.steps.load_overflow.Goals as goal
+
+pub load-requires : goal.load-requires
+load-requires c =
+    let r = c.requires in
+    (r.table, omega (arith, c.requires.size), loads_overflow _ _ _ (step 0 0 0 0 none) r.writes)

@@ -1,8 +1,0 @@
-use Rattle.std.proofs.Common.{arith}
-use mathlib.Core.Option.{none}
-use Rattle.atomic_table.specs.Table.{step}
-use Rattle.gp_ring.proofs.LaneSteps.{loads_read}
-use Rattle.gp_ring.proofs.lane.steps.load_read.Goals as goal
-
-pub load-requires : goal.load-requires
-load-requires c = (c.requires.table, omega (arith, c.requires.size), loads_read _ _ _ (step 0 0 0 0 none) c.requires.writes)
