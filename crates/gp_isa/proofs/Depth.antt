@@ -17,10 +17,10 @@ use Rattle.gp_isa.specs.Calls.{calls_of, calls_in, callees, reaches, is_recursiv
 abbrev pub In : ℕ → List ℕ → Type 0
 In h xs = list_any (λ g. h == g) xs ≡ true
 
-in_front : (h : ℕ) (xs ys : List ℕ) → In h xs → In h (xs ++ ys)
+pub in_front : (h : ℕ) (xs ys : List ℕ) → In h xs → In h (xs ++ ys)
 in_front h xs ys e = list_any-append (λ g. h == g) xs ys ∙ or_left _ _ e
 
-in_back : (h : ℕ) (xs ys : List ℕ) → In h ys → In h (xs ++ ys)
+pub in_back : (h : ℕ) (xs ys : List ℕ) → In h ys → In h (xs ++ ys)
 in_back h xs ys e = list_any-append (λ g. h == g) xs ys ∙ or_right _ _ e
 
 -- The points of statements hang on the points of the functions that they call, and on no other.

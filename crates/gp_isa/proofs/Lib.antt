@@ -19,3 +19,4 @@ pub mod Actions
 pub mod Blocks
 pub mod Runs
 pub mod NestedLoops
+pub mod Walks

@@ -1,5 +1,5 @@
 -- How many loops stand inside each other.
-use Rattle.std.proofs.Common.{◌≡◌, ℕ, zero, suc, ◌+◌, ◌<◌, ◌≤◌, ◌⊎◌, max, List, [], ◌∷◌, length, Some, None, refl, ap, ◌∙◌, inl, inr, arith, add-one}
+use Rattle.std.proofs.Common.{◌≡◌, ℕ, zero, suc, ◌+◌, ◌<◌, ◌≤◌, ◌⊎◌, max, List, [], ◌∷◌, length, Some, None, ap, ◌∙◌, inl, inr, arith}
 use Rattle.std.specs.Prelude.{slice_get}
 use Rattle.std.proofs.lemmas.Bool.{cases_lt}
 use Rattle.gp_isa.specs.declared.parts.Parts.{Parts}
@@ -10,19 +10,15 @@ use Rattle.gp_isa.specs.Statement.{Action, action_of, most_bodies}
 use Rattle.gp_isa.specs.Trace.{body_of}
 use Rattle.gp_isa.proofs.Bodies.{body_of-past}
 
-pub below_none : (parts : Parts) → 0 ≡ nesting_below parts 0
+below_least : (parts : Parts) (n most : ℕ) → ((f : ℕ) → f < n → loops_in most_bodies (body_of parts f) ≤ most) → nesting_below parts n ≤ most
 unfolding nesting_below
-below_none parts = refl
+below_least parts zero most few = omega arith
+below_least parts (suc n) most few = omega (arith, below_least parts n most (λ f within. few f (omega arith)), few n (omega arith))
 
-pub below_more : (parts : Parts) (n most here m : ℕ) (body : List Stmt) → most ≡ nesting_below parts n → here ≡ loops_in most_bodies body → body ≡ body_of parts n → m ≡ max here most → m ≡ nesting_below parts (n + 1)
-unfolding nesting_below
-below_more parts n most here m body is its same all =
-    let there : here ≡ loops_in most_bodies (body_of parts n) = its ∙ ap (loops_in most_bodies) same in
-    rw (add-one n, ← is, ← there) (omega (arith, all))
-
-pub nesting_is : (parts : Parts) (n most : ℕ) → n ≡ length parts.functions → most ≡ nesting_below parts n → most ≡ nesting_of parts
+-- no more than some functions have
+pub nesting_least : (parts : Parts) (most : ℕ) → ((f : ℕ) → f < length parts.functions → loops_in most_bodies (body_of parts f) ≤ most) → nesting_of parts ≤ most
 unfolding nesting_of
-nesting_is parts n most all is = is ∙ ap (nesting_below parts) all
+nesting_least parts most few = below_least parts (length parts.functions) most few
 
 most_below : (parts : Parts) (n f : ℕ) → f < n → loops_in most_bodies (body_of parts f) ≤ nesting_below parts n
 unfolding nesting_below

@@ -14,6 +14,7 @@ use Rattle.gp_isa.specs.InLimits.{AreInLimits}
 use Rattle.gp_isa.specs.Size.{most_frames}
 use Rattle.gp_isa.specs.Trace.{Point, points_of_body, body_of, trace}
 use Rattle.gp_isa.specs.kept.Sizes.{size_of, no_size, AreSizes, AreSomeSizes}
+use Rattle.gp_isa.specs.kept.Walks.{Done}
 use Rattle.gp_isa.specs.kept.Ways.{is_among}
 use Rattle.gp_isa.proofs.Bodies.{body_of-within}
 use Rattle.gp_isa.proofs.Depth.{same_points, calls_followed, no_trace}
@@ -105,9 +106,6 @@ whole_sizes parts acyclic sizes done are all = record { each = λ f. at f (cases
     at f (inr past) = get_or_past sizes f none (omega (arith, are.count)) ∙ ap size_of (sym (no_trace parts acyclic f past))
 
 -- while the functions of a rank are done one after another
-abbrev pub Done : List ℕ → ℕ → ℕ → ℕ → Type 0
-Done ranks rank f k = (get_or ranks k 0 < rank) ⊎ ((get_or ranks k 0 ≡ rank) × (k < f))
-
 pub done_before : (ranks : List ℕ) (rank f k : ℕ) → Done ranks rank (f + 1) k → Done ranks rank f k ⊎ (k ≡ f)
 done_before ranks rank f k (inl lower) = inl (inl lower)
 done_before ranks rank f k (inr (same, below)) = at (cases_lt k f)

@@ -2,3 +2,4 @@
 pub mod Ways
 pub mod Sizes
 pub mod Blocks
+pub mod Walks

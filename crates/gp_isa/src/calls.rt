@@ -16,29 +16,44 @@ use std::alloc::Global;
 /// A mark for each function.
 pub type Row = [bool; limits::FUNCTIONS];
 
-// Marks the functions that statements call, in which loops stand at most `deep` inside each other.
+/// Who calls whom: a row for each function. And how many statements there are, those of loops' bodies counted in.
+#[derive(Debug, Drop)]
+pub struct Calls {
+    pub rows: Vec<Row>,
+    pub statements: usize,
+}
+
+// Marks the functions that statements call, in which loops stand at most `deep` inside each other, and counts the
+// statements.
 #[cycle(calls)]
-fn mark_calls(body: &[Stmt], deep: u8, row: &mut [bool])
+fn mark_calls(body: &[Stmt], deep: u8, row: &mut [bool]) -> usize
     requires { All (λ h. h < length row.old) (calls_in (suc deep) body.now) }
     ensures { AddsMarks row.old row.new (calls_in (suc deep) body.now) }
 {
+    let mut count = body.len();
     for statement in body {
-        mark_statement(&statement.what, deep, row);
+        let inside = mark_statement(&statement.what, deep, row);
+        count = count.saturating_add(inside);
     }
+    count
 }
 
-// Marks the functions that a statement calls.
+// Marks the functions that a statement calls, and counts those of its body, if it is a loop.
 #[cycle(calls)]
-fn mark_statement(what: &What, deep: u8, row: &mut [bool])
+fn mark_statement(what: &What, deep: u8, row: &mut [bool]) -> usize
     requires { All (λ h. h < length row.old) (calls_of (calls_in deep) (action what.now)) }
     ensures { AddsMarks row.old row.new (calls_of (calls_in deep) (action what.now)) }
 {
     match what {
-        What::Call { f } => row[*f as usize] = true,
+        What::Call { f } => {
+            row[*f as usize] = true;
+            0
+        }
         What::Loop { body, .. } => {
             if deep > 0 {
-                mark_calls(body.get().as_slice(), deep - 1, row);
+                return mark_calls(body.get().as_slice(), deep - 1, row);
             }
+            0
         }
         What::Work { .. }
         | What::Send { .. }
@@ -46,31 +61,34 @@ fn mark_statement(what: &What, deep: u8, row: &mut [bool])
         | What::Lock { .. }
         | What::Unlock { .. }
         | What::Spawn { .. }
-        | What::Labels { .. } => {}
+        | What::Labels { .. } => 0,
     }
 }
 
-// The functions that a function's statements call.
-fn call_row(body: &[Stmt]) -> Row
+// The functions that a function's statements call, and how many statements those are.
+fn call_row(body: &[Stmt]) -> (Row, usize)
     requires { All (λ h. h < most_functions) (calls_in most_bodies body.now) }
-    ensures { (h : ℕ) → marked result h ≡ is_among h (calls_in most_bodies body.now) }
+    ensures { (h : ℕ) → marked result.0 h ≡ is_among h (calls_in most_bodies body.now) }
 {
     let mut row = [false; limits::FUNCTIONS];
-    mark_calls(body, limits::LOOPS, &mut row);
-    row
+    let count = mark_calls(body, limits::LOOPS, &mut row);
+    (row, count)
 }
 
 // A row for each function, with marks at those that it calls.
-fn call_rows(alloc: Global, parts: &Parts) -> Result<Vec<Row>, Memory>
+fn call_rows(alloc: Global, parts: &Parts) -> Result<Calls, Memory>
     requires { AreInLimits parts.now }
-    ensures len { IfOk result (λ rows. length rows.items ≡ length parts.now.functions) }
-    ensures calls { IfOk result (λ rows. AreCalls parts.now rows.items) }
+    ensures len { IfOk result (λ calls. length calls.rows.items ≡ length parts.now.functions) }
+    ensures calls { IfOk result (λ calls. AreCalls parts.now calls.rows.items) }
 {
-    let mut rows = Vec::new(alloc);
+    let mut rows = Vec::with_capacity(alloc, parts.functions.len())?;
+    let mut statements = 0usize;
     for function in parts.functions.as_slice() {
-        rows.push(call_row(function.body.as_slice()))?;
+        let found = call_row(function.body.as_slice());
+        statements = statements.saturating_add(found.1);
+        rows.push(found.0)?;
     }
-    Ok(rows)
+    Ok(Calls { rows, statements })
 }
 
 // The marks of both rows.
@@ -79,7 +97,8 @@ fn joined(row: Row, onward: Row) -> Row
 {
     let mut both = row;
     for h in 0..limits::FUNCTIONS {
-        both[h] = row[h] || onward[h];
+        // (without a branch, so that many are joined at once)
+        both[h] = row[h] | onward[h];
     }
     both
 }
@@ -92,8 +111,8 @@ fn go_through(rows: &mut [Row], through: usize)
 {
     let onward = rows[through];
     for f in 0..rows.len() {
-        let row = rows[f];
-        if row[through] {
+        if rows[f][through] {
+            let row = rows[f];
             rows[f] = joined(row, onward);
         }
     }
@@ -101,16 +120,16 @@ fn go_through(rows: &mut [Row], through: usize)
 
 /// A row for each function, with marks where calls lead: directly, and with each function that is gone through also
 /// through that one.
-pub fn lead_rows(alloc: Global, parts: &Parts) -> Result<Vec<Row>, Memory>
+pub fn lead_rows(alloc: Global, parts: &Parts) -> Result<Calls, Memory>
     requires { AreInLimits parts.now }
-    ensures len { IfOk result (λ rows. length rows.items ≡ length parts.now.functions) }
-    ensures leads { IfOk result (λ rows. AreLeads parts.now (length parts.now.functions) rows.items) }
+    ensures len { IfOk result (λ calls. length calls.rows.items ≡ length parts.now.functions) }
+    ensures leads { IfOk result (λ calls. AreLeads parts.now (length parts.now.functions) calls.rows.items) }
 {
-    let mut rows = call_rows(alloc, parts)?;
+    let mut calls = call_rows(alloc, parts)?;
     for through in 0..parts.functions.len() {
-        go_through(rows.as_mut_slice(), through);
+        go_through(calls.rows.as_mut_slice(), through);
     }
-    Ok(rows)
+    Ok(calls)
 }
 
 /// The first function that can call itself, directly or through others: the first row with a mark at its own place.

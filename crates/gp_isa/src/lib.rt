@@ -8,8 +8,9 @@
 //!
 //! What a program does is its trace (`specs/Trace.antt`): the list of points that whoever runs a function passes.
 //! No code builds that list. `check` finds how long the traces are, how deep their stacks, whether all their points are
-//! local or work, and their first shared point (`specs/Size.antt`): a table with a size for each function is filled with
-//! callees first, so that one walk over a function's statements gives its size. The order is told by ranks. A table with a mark for each two
+//! local or work, and their first shared point (`specs/Size.antt`). It takes callees first: the sizes of the functions
+//! called are there when a function's statements are walked over, so that one walk gives its size, and with it all that is
+//! kept of its statements (`specs/kept/Walks.antt`). The order is told by ranks. A table with a mark for each two
 //! functions, which for one function after the other takes up the ways through it, says who leads to whom: so it tells
 //! who can call itself, and where none can, calls lead to fewer functions from a function called than from its caller.
 //! The time grows with the statements and not with the ways of calls. `Program` keeps the sizes, and `depth`, `length`
@@ -34,7 +35,6 @@ mod in_limits;
 mod laws;
 pub mod limits;
 mod memory;
-mod nesting;
 mod parts;
 mod program;
 mod sequence;
@@ -42,6 +42,7 @@ mod size;
 mod statement;
 mod suffix;
 mod text;
+mod walk;
 
 pub use bad::Bad;
 pub use block::{Block, Run};

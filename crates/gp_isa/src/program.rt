@@ -12,11 +12,11 @@ use crate::block::Block;
 use crate::calls::{lead_rows, ranks, recursive_place};
 use crate::empty::empty_place;
 use crate::limits;
-use crate::nesting::most_nesting;
 use crate::parts::Parts;
-use crate::size::{Size, long_place, most_frames, trace_sizes};
+use crate::size::{Size, long_place, most_frames};
 use crate::statement::Stmt;
-use crate::suffix::{NO_BASE, Table, fill_table};
+use crate::suffix::{NO_BASE, Table};
+use crate::walk::{Walk, walk_functions};
 use std::alloc::Global;
 use std::marker::Model;
 
@@ -150,21 +150,23 @@ pub fn check(alloc: Global, parts: Parts) -> Result<Program, Bad>
             function: function as u32,
         });
     }
-    let rows = lead_rows(alloc, &parts)?;
-    if let Some(function) = recursive_place(rows.as_slice()) {
+    let calls = lead_rows(alloc, &parts)?;
+    if let Some(function) = recursive_place(calls.rows.as_slice()) {
         return Err(Bad::Recursion {
             function: function as u32,
         });
     }
-    let ranks = ranks(alloc, rows.as_slice())?;
-    let sizes = trace_sizes(alloc, &parts, ranks.as_slice())?;
+    let ranks = ranks(alloc, calls.rows.as_slice())?;
+    let Walk {
+        sizes,
+        table,
+        loops,
+    } = walk_functions(alloc, &parts, ranks.as_slice(), calls.statements)?;
     if let Some(function) = long_place(sizes.as_slice()) {
         return Err(Bad::TooLong {
             function: function as u32,
         });
     }
-    let table = fill_table(alloc, &parts, sizes.as_slice())?;
-    let loops = most_nesting(&parts);
     let depth = most_frames(sizes.as_slice());
     Ok(Program {
         parts,

@@ -1,17 +1,11 @@
-ghost use Rattle.std.specs.Prelude.{◌≡◌, None, Some, cond, min, ◌<◌, ◌-◌, ◌+◌, ◌++◌, ◌^◌, ℕ, suc, List, ◌∷◌, [], length, map, replicate, All, IfOk, IfSome, ◌≤◌, nat_lt, slice_index_or};
-ghost use Rattle.gp_isa.specs.Limits.{most_functions, most_points};
-ghost use Rattle.gp_isa.specs.InLimits.{AreInLimits};
-ghost use Rattle.gp_isa.specs.Calls.{first_from, first_recursive};
-ghost use Rattle.gp_isa.specs.Statement.{action};
-ghost use Rattle.gp_isa.specs.Trace.{Point, Instruction, Local, Labels, point_at, called_at, repeated, points_at, points_of_body, trace};
+ghost use Rattle.std.specs.Prelude.{◌≡◌, Some, cond, min, ◌<◌, ◌-◌, ◌+◌, ◌++◌, ◌^◌, ℕ, List, ◌∷◌, [], length, map, replicate, IfSome, nat_lt, slice_index_or};
+ghost use Rattle.gp_isa.specs.Limits.{most_points};
+ghost use Rattle.gp_isa.specs.Calls.{first_from};
+ghost use Rattle.gp_isa.specs.Trace.{Point, Instruction, Local, Labels, point_at, called_at, repeated};
 ghost use Rattle.gp_isa.specs.Size.{most_frames_below, shared_of};
-ghost use Rattle.gp_isa.specs.kept.Sizes.{size_of, no_size, AreSizes, AreRanks, AreSomeSizes};
+ghost use Rattle.gp_isa.specs.kept.Sizes.{size_of, AreSizes};
 
 use crate::limits;
-use crate::memory::Memory;
-use crate::parts::Parts;
-use crate::statement::{Stmt, What};
-use std::alloc::Global;
 
 /// What is done at a shared point. Channels, mutexes and functions are counted from 0 in file order.
 #[derive(Clone, Copy, Debug)]
@@ -46,7 +40,8 @@ pub struct Size {
 }
 
 impl Size {
-    fn none() -> Size
+    /// No points.
+    pub(crate) fn none() -> Size
         ensures { result ≡ size_of [] }
     {
         Size {
@@ -59,8 +54,8 @@ impl Size {
         }
     }
 
-    // The point of a new label set, which is local.
-    fn labels() -> Size
+    /// The point of a new label set, which is local.
+    pub(crate) fn labels() -> Size
         ensures { (f line set : ℕ) → result ≡ size_of (point_at f line (Labels set) ∷ []) }
     {
         Size {
@@ -73,8 +68,8 @@ impl Size {
         }
     }
 
-    // A shared point.
-    fn shared(first: Shared) -> Size
+    /// A shared point.
+    pub(crate) fn shared(first: Shared) -> Size
         ensures { (f line : ℕ) (instruction : Instruction) → shared_of instruction ≡ Some first →
             result ≡ size_of (point_at f line instruction ∷ []) }
     {
@@ -88,8 +83,8 @@ impl Size {
         }
     }
 
-    // The points of `work n`.
-    fn work(n: u32) -> Size
+    /// The points of `work n`.
+    pub(crate) fn work(n: u32) -> Size
         ensures { (f line : ℕ) → result ≡ size_of (replicate n (point_at f line Local)) }
     {
         if n == 0 {
@@ -123,8 +118,8 @@ impl Size {
         if self.local { next } else { self.first }
     }
 
-    // These points, and behind them the next ones.
-    fn then(self, next: Size) -> Size
+    /// These points, and behind them the next ones.
+    pub(crate) fn then(self, next: Size) -> Size
         ensures { (points more : List Point) → self ≡ size_of points → next ≡ size_of more → result ≡ size_of (points ++ more) }
     {
         Size {
@@ -140,8 +135,8 @@ impl Size {
         }
     }
 
-    // These points, passed in a call.
-    fn called(self) -> Size
+    /// These points, passed in a call.
+    pub(crate) fn called(self) -> Size
         requires { self.frames < 2 ^ 32 - 1 }
         ensures { (points : List Point) (f line : ℕ) → self ≡ size_of points → result ≡ size_of (map (called_at f line) points) }
     {
@@ -158,8 +153,8 @@ impl Size {
         if self.local { points } else { self.before }
     }
 
-    // These points `n` times.
-    fn repeated(self, n: u32) -> Size
+    /// These points `n` times.
+    pub(crate) fn repeated(self, n: u32) -> Size
         ensures { (points : List Point) → self ≡ size_of points → result ≡ size_of (repeated n points) }
     {
         if n == 0 {
@@ -174,92 +169,11 @@ impl Size {
     }
 }
 
-// The points of a function's statements, where `sizes` are those of the functions called, and loops stand at most
-// `deep` inside each other.
-#[cycle(size)]
-fn body_size(body: &[Stmt], deep: u8, sizes: &[Size]) -> Size
-    requires { All (λ s. s.frames < 2 ^ 32 - 1) sizes.now }
-    ensures { (calls : ℕ → List Point) (f : ℕ) → AreSizes sizes.now calls → result ≡ size_of (points_of_body calls f (suc deep) body.now) }
-{
-    let mut total = Size::none();
-    for statement in body {
-        total = total.then(statement_size(&statement.what, deep, sizes));
-    }
-    total
-}
-
-// The points of one statement.
-#[cycle(size)]
-pub fn statement_size(what: &What, deep: u8, sizes: &[Size]) -> Size
-    requires { All (λ s. s.frames < 2 ^ 32 - 1) sizes.now }
-    ensures { (calls : ℕ → List Point) (f line : ℕ) → AreSizes sizes.now calls →
-        result ≡ size_of (points_at calls (points_of_body calls f deep) f line (action what.now)) }
-{
-    match what {
-        What::Work { n } => Size::work(*n),
-        What::Call { f } => size_at(sizes, *f).called(),
-        What::Loop { n, body, .. } => {
-            let once = if deep == 0 {
-                Size::none()
-            } else {
-                body_size(body.get().as_slice(), deep - 1, sizes)
-            };
-            once.repeated(*n)
-        }
-        What::Labels { .. } => Size::labels(),
-        What::Send { c } => Size::shared(Shared::Send { c: *c }),
-        What::Recv { c } => Size::shared(Shared::Recv { c: *c }),
-        What::Lock { m } => Size::shared(Shared::Lock { m: *m }),
-        What::Unlock { m } => Size::shared(Shared::Unlock { m: *m }),
-        What::Spawn { f } => Size::shared(Shared::Spawn { f: *f }),
-    }
-}
-
-// The points of function `f`, none past the table's end.
-fn size_at(sizes: &[Size], f: u32) -> Size
+/// The points of function `f`, none past the table's end.
+pub fn size_at(sizes: &[Size], f: u32) -> Size
     ensures { result ≡ slice_index_or sizes.now f (size_of []) }
 {
     sizes.get(f as usize).copied().unwrap_or(Size::none())
-}
-
-// Sizes of no points, one for each function.
-fn no_sizes(alloc: Global, parts: &Parts) -> Result<Vec<Size>, Memory>
-    ensures { IfOk result (λ sizes. sizes.items ≡ replicate (length parts.now.functions) no_size) }
-{
-    Ok(Vec::from_elem(alloc, Size::none(), parts.functions.len())?)
-}
-
-// The sizes of the functions of one rank, where those of lower ranks are there.
-fn size_rank(parts: &Parts, ranks: &[usize], rank: usize, sizes: &mut [Size])
-    requires limits { AreInLimits parts.now }
-    requires acyclic { first_recursive parts.now ≡ None }
-    requires ranks { AreRanks parts.now most_functions ranks.now }
-    requires before { AreSomeSizes parts.now sizes.old (λ f. slice_index_or ranks.now f 0 < rank) }
-    ensures { AreSomeSizes parts.now sizes.new (λ f. slice_index_or ranks.now f 0 < rank + 1) }
-{
-    let functions = parts.functions.as_slice();
-    for f in 0..functions.len() {
-        if ranks[f] == rank {
-            sizes[f] = body_size(functions[f].body.as_slice(), limits::LOOPS, sizes);
-        }
-    }
-}
-
-/// The sizes of the functions' traces. Each comes after those of the functions that it calls, so that one walk over its
-/// statements gives it.
-pub fn trace_sizes(alloc: Global, parts: &Parts, ranks: &[usize]) -> Result<Vec<Size>, Memory>
-    requires limits { AreInLimits parts.now }
-    requires acyclic { first_recursive parts.now ≡ None }
-    requires ranks { AreRanks parts.now most_functions ranks.now }
-    ensures len { IfOk result (λ sizes. length sizes.items ≡ length parts.now.functions) }
-    ensures sizes { IfOk result (λ sizes. AreSizes sizes.items (trace parts.now)) }
-    ensures few { IfOk result (λ sizes. All (λ s. s.frames < 2 ^ 32 - 1) sizes.items) }
-{
-    let mut sizes = no_sizes(alloc, parts)?;
-    for rank in 0..limits::FUNCTIONS + 1 {
-        size_rank(parts, ranks, rank, sizes.as_mut_slice());
-    }
-    Ok(sizes)
 }
 
 /// The first function whose trace is too long.

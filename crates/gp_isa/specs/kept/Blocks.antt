@@ -39,6 +39,10 @@ pub record Grows (old new : List Suffix) : Type 0 where
   pub more : List Suffix
   pub behind : new ≡ old ++ more
 
+-- Entries that were added to a table are those of a body from a place on, whatever stands before them.
+pub record AddsBlock (calls : ℕ → List Point) (old new : List Suffix) (deep base : ℕ) (body : List Stmt) : Type 0 where
+  pub each : (before : List Suffix) → length before ≡ length old → HasBlock calls (before ++ drop (length old) new) deep base body
+
 -- A table has the entries of functions, from the places on that are told.
 pub record AreBlocks (parts : Parts) (table : List Suffix) (bases : List ℕ) : Type 0 where
   pub each : (f : ℕ) → slice_index_or bases f no_base < no_base →

@@ -26,8 +26,8 @@ pub mark_statement-returns-in-Call : goal.mark_statement-returns-in-Call
 mark_statement-returns-in-Call t c =
     subst (AddsMarks c.args.row.now _) (sym (calls_of-call (calls_in c.args.deep) c.args.what.now c.in-Call.f c.in-Call.is)) (AddsMarks-one c.args.row.now c.in-Call.f (mark_statement-bounds-row-f t c))
 
-pub mark_calls-mark_statement-requires : goal.mark_calls-mark_statement-requires
-mark_calls-mark_statement-requires t c = (
+pub mark_calls-mark_statement-inside-requires : goal.mark_calls-mark_statement-inside-requires
+mark_calls-mark_statement-inside-requires t c = (
   omega arith,
   all_at (λ h. h < length c.loop-statement.row) (calls_of_statement c.args.deep) c.args.body.now c.loop-statement.statement-index c.statement-item.result
       c.loop-statement-test.true c.statement-item.is
@@ -40,9 +40,9 @@ mark_calls-loop-statement-init t c = AddsMarks-none c.args.row.now
 
 pub mark_calls-loop-statement-preserved : goal.mark_calls-loop-statement-preserved
 mark_calls-loop-statement-preserved t c =
-    subst (AddsMarks c.args.row.now c.mark_statement.new.row)
+    subst (AddsMarks c.args.row.now c.mark_statement-inside.new.row)
     (sym (calls_in-more c.args.deep c.args.body.now c.loop-statement.statement-index c.statement-item.result c.loop-statement-test.true c.statement-item.is))
-    (AddsMarks-more c.args.row.now c.loop-statement.row c.mark_statement.new.row _ _ c.loop-statement.invariant c.mark_statement.ensures)
+    (AddsMarks-more c.args.row.now c.loop-statement.row c.mark_statement-inside.new.row _ _ c.loop-statement.invariant c.mark_statement-inside.ensures)
 
 pub mark_calls-returns : goal.mark_calls-returns
 mark_calls-returns t c =

@@ -6,4 +6,4 @@ use Rattle.gp_isa.proofs.Rows.{unmarked}
 use Rattle.gp_isa.proofs.calls.call_row.Goals as goal
 
 pub returns : goal.returns
-returns c h = (c.mark_calls.ensures).each h ∙ ap (λ b. b || is_among h (calls_in most_bodies c.args.body.now)) (unmarked 256 h)
+returns c h = c.mark_calls-count.ensures.each h ∙ ap (λ b. b || is_among h (calls_in most_bodies c.args.body.now)) (unmarked 256 h)
