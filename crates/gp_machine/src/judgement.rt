@@ -89,9 +89,9 @@ impl<R: Run> Present<R> {
     }
 
     /// What is due while w runs g.
-    pub fn due(&self, w: u32, g: u32, peek: Peek) -> Entry
+    pub fn due(&self, w: u32, g: u32, peek: &Peek) -> Entry
         requires slice { (worker self.now w).slice ≤ quantum }
-        requires peek { IsPeekAt (code_of R.program) self.now g peek }
+        requires peek { IsPeekAt (code_of R.program) self.now g peek.now }
         ensures { result ≡ due (code_of R.program) R.settings self.now w g }
     {
         let worker = self.worker(w);

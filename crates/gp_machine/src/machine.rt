@@ -125,9 +125,9 @@ impl<R: Run> Machine<R> {
 
     /// The entry that is due on worker `w`, which runs a goroutine. `peek` is the look ahead of its body, up to 1,000
     /// points.
-    pub fn due(&self, w: u32, peek: Peek) -> Entry
+    pub fn due(&self, w: u32, peek: &Peek) -> Entry
         requires runs { IsSome (worker (state_of R.program R.settings self.now) w).runs }
-        requires peek { IsPeekOn R.program R.settings self.now w peek }
+        requires peek { IsPeekOn R.program R.settings self.now w peek.now }
         ensures { IsDueOn R.program R.settings self.now w result }
     {
         match self.present.worker(w).runs {

@@ -102,7 +102,7 @@ fn worker_action<R: Run>(
         Some(g) => {
             let peek = bodies.peek(program, g, limits::QUANTUM);
             Action {
-                entry: machine.due(w, peek),
+                entry: machine.due(w, &peek),
                 point: bodies.point(g, peek),
             }
         }

@@ -224,7 +224,7 @@ impl<R: Run> World<R> {
         ensures memory { OnErr result (WantsMemory R.program R.settings self.old.journal who.old.number g) }
     {
         let peek = body.peek(program, limits::QUANTUM);
-        let made = self.history.machine().due(who.number(), peek);
+        let made = self.history.machine().due(who.number(), &peek);
         match made {
             Entry::Run { n, .. } => Ok(self.run(who, g, n)),
             Entry::Op { .. } => {

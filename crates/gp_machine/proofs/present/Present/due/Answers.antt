@@ -35,8 +35,8 @@ returns-then-matches g c =
     } in
     op_is_due (code_of g.R.Run.program) g.R.Run.settings now c.args.w c.args.g (sym (ap (λ (v : Worker). v.tick) c.worker-worker.ensures) ∙ c.if-worker.false) on
     (elim c.match-matches.branch [
-      | in-Shared v ↦ next_shared (trace_of (code_of g.R.Run.program) (goroutine now c.args.g)) (goroutine now c.args.g).count c.args.peek.local c.args.peek.then v.in-Shared.field-0
-          (look_of (code_of g.R.Run.program) g.R.Run.settings now c.args.w c.args.g c.args.peek c.requires.peek) c.if-peek-eq0.true v.in-Shared.is
+      | in-Shared v ↦ next_shared (trace_of (code_of g.R.Run.program) (goroutine now c.args.g)) (goroutine now c.args.g).count c.args.peek.now.local c.args.peek.now.then v.in-Shared.field-0
+          (look_of (code_of g.R.Run.program) g.R.Run.settings now c.args.w c.args.g c.args.peek.now c.requires.peek) c.if-peek-eq0.true v.in-Shared.is
       | in_default v ↦ absurd (both_ways c.match-matches.matches v.matches-is c.if-matches.true)
     ])
 
@@ -50,15 +50,15 @@ returns g c =
           ∙ c.if-over.false;
       slice_left = λ spent. c.if-worker-eq-QUANTUM.false (slice ∙ spent);
     } in
-    let look = look_of (code_of g.R.Run.program) g.R.Run.settings now c.args.w c.args.g c.args.peek c.requires.peek in
+    let look = look_of (code_of g.R.Run.program) g.R.Run.settings now c.args.w c.args.g c.args.peek.now c.requires.peek in
     run_is_due (code_of g.R.Run.program) g.R.Run.settings now c.args.w c.args.g c.extent-n.result (sym (ap (λ (v : Worker). v.tick) c.worker-worker.ensures) ∙ c.if-worker.false) on
     (elim c.else-peek-eq0.branch [
       | else-peek-eq0-via-then-peek-eq0+else-matches w ↦ elim w.match-matches.branch [
         | in-Shared v ↦ absurd (both_ways w.match-matches.matches w.if-matches.false v.matches-is)
         | in_default v ↦ next_local (trace_of (code_of g.R.Run.program) (goroutine now c.args.g))
-            (goroutine now c.args.g).count c.args.peek.local c.args.peek.then look w.if-peek-eq0.true v.in_default.not-Shared
+            (goroutine now c.args.g).count c.args.peek.now.local c.args.peek.now.then look w.if-peek-eq0.true v.in_default.not-Shared
       ]
-      | else-peek-eq0-via-else-peek-eq0 w ↦ ahead_local (trace_of (code_of g.R.Run.program) (goroutine now c.args.g)) (goroutine now c.args.g).count c.args.peek.local c.args.peek.then look
+      | else-peek-eq0-via-else-peek-eq0 w ↦ ahead_local (trace_of (code_of g.R.Run.program) (goroutine now c.args.g)) (goroutine now c.args.g).count c.args.peek.now.local c.args.peek.now.then look
           (omega arith)
     ])
-    (c.extent-n.ensures ∙ extent_of (code_of g.R.Run.program) g.R.Run.settings now c.args.w c.args.g c.args.peek c.requires.peek)
+    (c.extent-n.ensures ∙ extent_of (code_of g.R.Run.program) g.R.Run.settings now c.args.w c.args.g c.args.peek.now c.requires.peek)
