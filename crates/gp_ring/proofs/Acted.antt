@@ -1,18 +1,18 @@
 -- What an act on what was looked at leaves of the reader.
-use Rattle.std.proofs.Common.{◌≡◌, ℕ, ◌+◌, ◌-◌, ◌%◌, ◌<◌, ◌≤◌, ◌^◌, Bool, true, false, List, [], ◌∷◌, ◌++◌, map, length, refl, ap, sym, subst, ◌∙◌, append-nil, length-append, arith}
+use Rattle.std.proofs.Common.{◌≡◌, ℕ, ◌+◌, ◌<◌, ◌≤◌, Bool, true, false, List, [], ◌∷◌, ◌++◌, map, length, refl, ap, sym, subst, ◌∙◌, append-nil, length-append, arith}
 use Rattle.std.specs.Prelude.{nat_lt, ◌==◌, if◌then◌else◌}
 use Rattle.std.specs.List.{flat_map}
 use Rattle.std.proofs.lemmas.List.{nil_from_length}
 use Rattle.std.proofs.lemmas.Bool.Decides.{nat_tests}
 use Rattle.atomic_table.specs.Table.{Me}
 use Rattle.atomic_table.specs.Seated.{TableId}
-use Rattle.gp_layout.specs.Words.{words_of, tags_of, count_of, change_of}
-use Rattle.gp_ring.specs.Records.{Offer, RingRecord, Loss}
+use Rattle.gp_layout.specs.Words.{words_of, tags_of, count_of}
+use Rattle.gp_ring.specs.Records.{Offer, RingRecord}
 use Rattle.gp_ring.specs.PlainRing.{Found, Batch, Taken, Raced, Nothing, End, piece_for}
 use Rattle.gp_ring.specs.Counts.{behind_all}
-use Rattle.gp_ring.specs.Course.{loss_offer, record_for, records_for}
+use Rattle.gp_ring.specs.Course.{loss_offer, records_for}
 use Rattle.gp_ring.specs.TwoEnds.{ReaderEnd, Acts, acted_by, acted, is_ahead, has_loss}
-use Rattle.gp_ring.specs.kept.Views.{IsAhead, with_due, with_due_labels, with_batch, with_time, with_loss, without_loss}
+use Rattle.gp_ring.specs.kept.Views.{with_due, with_due_labels, with_batch, with_time, with_loss, without_loss}
 use Rattle.gp_ring.specs.kept.Halves.{reader_end, IsAt, IsReading, HasSeen}
 use Rattle.gp_ring.specs.declared.between.view.View.{View}
 use Rattle.gp_ring.specs.declared.between.steps.Sizes.{Sizes}

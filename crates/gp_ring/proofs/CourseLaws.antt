@@ -1,18 +1,17 @@
 -- Each step of a ring between two threads keeps its course sound, over plain lists.
-use Rattle.std.proofs.Common.{◌≡◌, ℕ, zero, suc, ◌+◌, ◌-◌, ◌*◌, ◌%◌, ◌<◌, ◌≤◌, ◌^◌, Bool, true, false, List, [], ◌∷◌, ◌++◌, map, length, replicate, refl, ap, sym, subst, ◌∙◌, append_assoc, append-nil, arith, length-append}
+use Rattle.std.proofs.Common.{◌≡◌, ℕ, ◌+◌, ◌*◌, ◌%◌, ◌<◌, ◌≤◌, ◌^◌, Bool, true, false, List, [], ◌∷◌, ◌++◌, length, replicate, refl, ap, sym, subst, ◌∙◌, append_assoc, append-nil, arith, length-append}
 use Rattle.std.specs.Prelude.{◌==◌, if◌then◌else◌}
 use Rattle.std.specs.List.{AllByRecursion}
 use Rattle.std.proofs.lemmas.List.{map-append}
-use Rattle.gp_layout.specs.Place.{raise_of}
 use Rattle.gp_layout.specs.Spelling.{loss_size}
-use Rattle.gp_ring.specs.Records.{Offer, RingRecord, Sample, Loss, Covers, IsOffer, head, fit_twice, words_for, words_for_all, words_for_most, all_zero}
-use Rattle.gp_ring.specs.PlainRing.{empty_ring, piece_for, record_of}
+use Rattle.gp_ring.specs.Records.{Offer, RingRecord, Sample, Loss, Covers, IsOffer, head, fit_twice, words_for, words_for_all, words_for_most}
+use Rattle.gp_ring.specs.PlainRing.{empty_ring, piece_for}
 use Rattle.gp_ring.specs.Follows.{samples}
-use Rattle.gp_ring.specs.Counts.{behind, behind_all}
+use Rattle.gp_ring.specs.Counts.{behind_all}
 use Rattle.gp_ring.specs.Course.{Course, loss_offer, losses, record_for, records_for, IsWhole, StartsWithHead, first_course, kept_of, words_kept, all_of, IsLossless, IsBounded, IsSound}
 use Rattle.gp_ring.specs.Course.{delivered, with_since, first_lost, one_lost, owing, paid, with_end, with_batch, lifted}
 use Rattle.gp_ring.proofs.Covering.{covers-delivered, covers-begun, covers-counted}
-use Rattle.gp_ring.proofs.Heads.{head-all, fit-parts, words-append, most-append}
+use Rattle.gp_ring.proofs.Heads.{words-append, most-append}
 use Rattle.gp_ring.proofs.Spelled.{record-offer, record-loss, length-offer, length-zeros, raise-le}
 use Rattle.gp_ring.proofs.Following.{differ, not_zero, begins-next, samples-more, fits_less}
 use Rattle.gp_ring.proofs.Tracing.{behind-append}

@@ -1,7 +1,7 @@
 -- What deciding an offer needs, and what it leaves of the writer.
-use Rattle.std.proofs.Common.{◌≡◌, ◌⊎◌, ℕ, ◌+◌, ◌*◌, ◌-◌, ◌%◌, ◌<◌, ◌≤◌, ◌^◌, Bool, true, false, List, [], ◌∷◌, ◌++◌, length, replicate, refl, ap, sym, subst, ◌∙◌, inl, inr, append-nil, append_assoc, length-append, arith}
-use Rattle.std.specs.Prelude.{nat_le, nat_lt, ◌==◌, ◌&&◌, if◌then◌else◌}
-use Rattle.std.proofs.Math.Nat.{mod-lt, mod-add-mod, mod-eq_of_lt, mod_self}
+use Rattle.std.proofs.Common.{◌≡◌, ℕ, ◌+◌, ◌*◌, ◌-◌, ◌%◌, ◌<◌, ◌≤◌, ◌^◌, Bool, true, false, List, [], ◌∷◌, ◌++◌, length, replicate, refl, ap, sym, subst, ◌∙◌, inl, inr, append_assoc, length-append, arith}
+use Rattle.std.specs.Prelude.{nat_le, nat_lt, ◌==◌, if◌then◌else◌}
+use Rattle.std.proofs.Math.Nat.{mod-lt, mod-add-mod, mod-eq_of_lt}
 use Rattle.std.proofs.lemmas.Bool.{and_parts, and_from, cases_lt}
 use Rattle.std.proofs.lemmas.Bool.Decides.{nat_tests}
 use Rattle.atomic_table.specs.Table.{Me}
@@ -10,7 +10,7 @@ use Rattle.gp_layout.specs.Words.{words_of, tags_of, count_of, change_of}
 use Rattle.gp_layout.specs.Place.{raise_of, skip_of, after_of}
 use Rattle.gp_layout.specs.Room.{room_for_one, room_for_two}
 use Rattle.gp_layout.specs.Spelling.{size_of, loss_size}
-use Rattle.gp_ring.specs.Records.{Offer, IsOffer, fit_twice, words_for, words_for_all, words_for_most}
+use Rattle.gp_ring.specs.Records.{Offer, fit_twice, words_for, words_for_all, words_for_most}
 use Rattle.gp_ring.specs.PlainRing.{piece_for}
 use Rattle.gp_ring.specs.Offered.{offer_of}
 use Rattle.gp_ring.specs.Counts.{behind, behind_all}
@@ -25,7 +25,7 @@ use Rattle.gp_ring.specs.declared.between.writing.Pen.{Pen}
 use Rattle.gp_ring.specs.declared.between.writing.Loaded.{Loaded}
 use Rattle.gp_ring.specs.declared.wrote.Wrote.{Wrote}
 use Rattle.gp_ring.specs.declared.wrote.Wrote.TheVariants.{Kept, Lost}
-use Rattle.gp_ring.proofs.Heads.{most-append, words-append, fit-parts, fit-from}
+use Rattle.gp_ring.proofs.Heads.{most-append, words-append, fit-parts}
 use Rattle.gp_ring.proofs.Spelled.{raise-le}
 use Rattle.gp_ring.proofs.Following.{differ, fits_less, le_is}
 use Rattle.gp_ring.proofs.CourseLaws.{loss-length}
@@ -287,7 +287,7 @@ module _ (table seat : TableId) (me : Me Unit View) (sizes : Sizes) (pen : Pen) 
       let h = sym header_is in
       (λ i. room_by (some-pending p i) (writer_end table me.0) (offer_of tag now header stack))
       ∙ (λ i. room_for_two (sym s.len_is i) (sym s.tags_is i) (sym k.written_words i - words_of (r i)) (sym k.written_tags i - tags_of (r i)) (sym k.written_words i % sym s.len_is i)
-          (loss_size (sym s.hdrsize_is i)) (size_of (h i) (length stack)))
+      (loss_size (sym s.hdrsize_is i)) (size_of (h i) (length stack)))
 
   pub free-one : room_for_one sizes.len sizes.tags (words_of pen.w - words_of loaded.r) (tags_of pen.w - tags_of loaded.r) (words_of pen.w % sizes.len) (size_of (length header) (length stack)) ≡ true
       → (words_of pen.w + raise_of (words_of pen.w % sizes.len) sizes.len (size_of (length header) (length stack)) ≤ words_of loaded.r + sizes.len) × (tags_of pen.w < tags_of loaded.r + sizes.tags)

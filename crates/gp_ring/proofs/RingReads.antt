@@ -1,11 +1,11 @@
 -- Each kind of step of the reader keeps the rule of a ring, and so do the cuts of seats.
-use Rattle.std.proofs.Common.{◌≡◌, ◌≢◌, ◌⊎◌, ℕ, zero, suc, ◌+◌, ◌-◌, ◌*◌, ◌%◌, ◌<◌, ◌≤◌, ◌^◌, Bool, ◌&&◌, ◌||◌, List, [], ◌∷◌, ◌++◌, length, drop, true, false, refl, ap, sym, subst, ◌∙◌, inl, inr, ⊎_elim, append-nil, length-append, arith}
+use Rattle.std.proofs.Common.{◌≡◌, ◌≢◌, ◌⊎◌, ℕ, zero, suc, ◌+◌, ◌*◌, ◌<◌, ◌≤◌, ◌^◌, Bool, ◌&&◌, ◌||◌, List, [], ◌∷◌, ◌++◌, length, drop, true, false, refl, ap, sym, subst, ◌∙◌, inl, inr, ⊎_elim, append-nil, length-append, arith}
 use Rattle.std.specs.Prelude.{slice_set, slice_index, replicate, ◌==◌, if◌then◌else◌}
 use Rattle.std.specs.List.{AllByRecursion}
 use mathlib.Core.Option.{none, some, some-ne-none, some-injective}
 use lib.ListN.{get_elem?}
 use prog.Atomic.{either}
-use Rattle.std.proofs.lemmas.List.{get_or-replicate, set-get_or, append_assoc, length-replicate, nil_from_length}
+use Rattle.std.proofs.lemmas.List.{get_or-replicate, length-replicate, nil_from_length}
 use Rattle.std.proofs.lemmas.Bool.{and_parts}
 use Rattle.std.proofs.lemmas.Bool.Decides.{nat_tests}
 use Rattle.atomic_table.specs.Table.{Step, Me, Allows, Splits, Joins, State, step, stepped, opening}
@@ -14,19 +14,18 @@ use Rattle.atomic_table.proofs.Lists.{at_set}
 use Rattle.gp_layout.specs.Words.{words_of, tags_of, count_of, change_of}
 use Rattle.gp_ring.specs.Records.{Offer, RingRecord, Covers}
 use Rattle.gp_ring.specs.Counts.{behind_all}
-use Rattle.gp_ring.specs.Course.{Course, first_course, kept_of, words_kept, loss_offer, records_for, IsWhole, StartsWithHead, IsSound, with_batch as batch_taken, lifted}
+use Rattle.gp_ring.specs.Course.{Course, first_course, kept_of, loss_offer, records_for, IsWhole, StartsWithHead, with_batch as batch_taken, lifted}
 use Rattle.gp_ring.specs.kept.Traces.{all_laid, labels_from, Stands, first_word, IsDueAt}
 use Rattle.gp_ring.specs.kept.Views.{first_view, nobody, writer_of, reader_of, with_writer, with_end, with_flow, is_none, with_ahead, without_words, without_labels, with_batch, with_time, loss_of, with_loss, without_loss}
 use Rattle.gp_ring.specs.kept.Views.{IsAhead, IsAll, loaded_end, loaded_flow, loaded_written, loaded_word, loaded_label, stored_read, loaded_since, exchanged_loss}
-use Rattle.gp_ring.specs.kept.RingRule.{Desk, Past, AreWords, AreNumbers, IsQuiet, IsWriterIn, IsReaderIn, IsEarlier, IsStanding, IsSizedAs, Fits, AllFit, IsRing, words_pulled}
+use Rattle.gp_ring.specs.kept.RingRule.{Desk, Past, AreWords, AreNumbers, IsWriterIn, IsReaderIn, IsEarlier, IsStanding, IsSizedAs, Fits, AllFit, IsRing, words_pulled}
 use Rattle.gp_ring.specs.declared.between.view.View.{View}
-use Rattle.gp_ring.specs.declared.between.view.WriterView.{WriterView}
 use Rattle.gp_ring.specs.declared.between.view.ReaderView.{ReaderView}
 use Rattle.gp_ring.proofs.Tracing.{AreFrom, laid-append, labels-append, from-right, from-laid, from-labels, stands-left, stands-right, due-word, shorter}
-use Rattle.gp_ring.proofs.CourseLaws.{first-sound, batch-sound, lifted-sound, none-all, rs}
+use Rattle.gp_ring.proofs.CourseLaws.{first-sound, batch-sound, lifted-sound, none-all}
 use Rattle.gp_ring.proofs.RingWords.{store-read, store-flow}
 use Rattle.gp_ring.proofs.RingViews.{off, at_end, all_set, no_writer, no_reader, reader_goes, writer-batch, writer-lifted, none_left}
-use Rattle.gp_ring.proofs.RingSteps.{Goes, same_words, won_is, raced_is, same_or, zero_above}
+use Rattle.gp_ring.proofs.RingSteps.{Goes, same_words, won_is, raced_is, same_or}
 
 -- all views, when the reader knows more, and nothing else changed
 reads_on : (past : Past) (views : List View) (seat : ℕ) (v : View) (reader : ReaderView) → AllFit past views → get_elem? views seat ≡ some v → v.reads ≡ true → IsReaderIn past.course past.flow reader
@@ -137,10 +136,10 @@ over_now : (course : Course) (desk : Desk) (flow : ℕ) (r : ReaderView) → Are
 over_now course desk flow r n f e = ⊎_elim
     (λ (o : r.is_over ≡ true). f.over o)
     (λ (l : (r.is_last && (count_of r.overflow == 0) && is_none course.unread) ≡ true).
-      let p = and_parts (r.is_last && (count_of r.overflow == 0)) (is_none course.unread) l in
-      let q = and_parts r.is_last (count_of r.overflow == 0) p.0 in
-      let k = f.last q.0 in
-      (k.0, sym n.pending ∙ ap count_of k.1 ∙ is_zero (count_of r.overflow) q.1, none_is course.unread p.1))
+    let p = and_parts (r.is_last && (count_of r.overflow == 0)) (is_none course.unread) l in
+    let q = and_parts r.is_last (count_of r.overflow == 0) p.0 in
+    let k = f.last q.0 in
+    (k.0, sym n.pending ∙ ap count_of k.1 ∙ is_zero (count_of r.overflow) q.1, none_is course.unread p.1))
     (or_cases r.is_over (r.is_last && (count_of r.overflow == 0) && is_none course.unread) e)
 
 pub loads_written : {S : Type 0} (slots seat : ℕ) (me : Me S View) (st : Step S) → me.0.reads ≡ true → Allows IsRing slots seat me 1 (λ x. x) (loaded_written st me)
@@ -176,9 +175,13 @@ loads_written slots seat me st reads s h count at bits =
       tags_within = subst (λ (x : ℕ × List Offer). tags_of (slice_index s.words 1) ≤ length x.1 + x.0) (λ i. (sym f.1.2 i, sym f.2.pulled i)) tags_most;
       whole = subst (λ (x : ℕ). AllByRecursion (IsWhole x) h.0.course.unread) (sym f.1.0) h.2.sound.whole;
       over = λ e. (f.2.over e).2;
-    } in
-    (with_ahead me.0 (slice_index s.words 1) h.0.course.unread, keeps, tt,
-    (h.0, same_words 1 s.words h.0 h.1, h.2, reads_on h.0 s.views seat me.0 (with_ahead me.0 (slice_index s.words 1) h.0.course.unread).reader h.3 at reads new), (refl, told))
+    } in (
+      with_ahead me.0 (slice_index s.words 1) h.0.course.unread,
+      keeps,
+      tt,
+      (h.0, same_words 1 s.words h.0 h.1, h.2, reads_on h.0 s.views seat me.0 (with_ahead me.0 (slice_index s.words 1) h.0.course.unread).reader h.3 at reads new),
+      (refl, told),
+    )
 
 -- ---- words and tags are loaded
 
@@ -379,8 +382,7 @@ loss_won s slots seat me old word h at reads flow_is pos has_seen is_timed none_
       over = λ x. (let o = f.2.over x in (o.0, refl, o.2));
     } in
     let views = reader_goes h.0 (lifted h.0.course) word s.views seat me.0 (with_loss me.0 (slice_index s.words 2)).reader (refl, refl, refl)
-    (λ w g. writer-lifted h.0.course h.0.desk h.0.flow word (h.0.course.taken ++ loss_offer h.0.course.hdrsize h.0.course.pending h.0.course.since ∷ []) 0 (h.0.course.change + 1) w pos' nil change g) h.3 at reads new in
-    (
+    (λ w g. writer-lifted h.0.course h.0.desk h.0.flow word (h.0.course.taken ++ loss_offer h.0.course.hdrsize h.0.course.pending h.0.course.since ∷ []) 0 (h.0.course.change + 1) w pos' nil change g) h.3 at reads new in (
       with_loss me.0 (slice_index s.words 2),
       keeps,
       tt,
@@ -467,34 +469,42 @@ opens S hdrsize len tags some_words some_tags =
   where
     begun : Fits (first_past hdrsize len tags) 0 (first_view hdrsize len tags)
     begun = record {
-      writer = λ _. (refl, (refl, refl, refl), record {
-        offers = refl;
-        kept = refl;
-        draft = refl;
-        next = refl;
-        label = refl;
-        next_label = refl;
-        since = refl;
-        owed = refl;
-        closed = refl;
-        flow_is = inl refl;
-        read_words = omega arith;
-        read_tags = omega arith;
-      });
-      reader = λ _. (refl, (refl, refl, refl), record {
-        taken = refl;
-        pulled = refl;
-        ahead = ([], refl);
-        due = ([], refl);
-        due_labels = ([], refl);
-        earlier = earlier_self 0 0 refl;
-        seen = λ _ e. absurd (off e);
-        timed = λ _ e. absurd (off e);
-        end_found = λ e. absurd (omega arith);
-        last = λ e. absurd (off e);
-        last_seen = λ e _. absurd (off e);
-        over = λ e. absurd (off e);
-      });
+      writer = λ _. (
+        refl,
+        (refl, refl, refl),
+        record {
+          offers = refl;
+          kept = refl;
+          draft = refl;
+          next = refl;
+          label = refl;
+          next_label = refl;
+          since = refl;
+          owed = refl;
+          closed = refl;
+          flow_is = inl refl;
+          read_words = omega arith;
+          read_tags = omega arith;
+        },
+      );
+      reader = λ _. (
+        refl,
+        (refl, refl, refl),
+        record {
+          taken = refl;
+          pulled = refl;
+          ahead = ([], refl);
+          due = ([], refl);
+          due_labels = ([], refl);
+          earlier = earlier_self 0 0 refl;
+          seen = λ _ e. absurd (off e);
+          timed = λ _ e. absurd (off e);
+          end_found = λ e. absurd (omega arith);
+          last = λ e. absurd (off e);
+          last_seen = λ e _. absurd (off e);
+          over = λ e. absurd (off e);
+        },
+      );
     }
 
     one : AllFit (first_past hdrsize len tags) (first_view hdrsize len tags ∷ [])

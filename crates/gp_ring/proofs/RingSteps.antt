@@ -1,5 +1,5 @@
 -- Each kind of step of the writer keeps the rule of a ring.
-use Rattle.std.proofs.Common.{◌≡◌, ◌≢◌, ◌⊎◌, ℕ, zero, suc, ◌+◌, ◌-◌, ◌*◌, ◌%◌, ◌<◌, ◌≤◌, ◌^◌, Bool, List, [], ◌∷◌, ◌++◌, length, drop, true, false, refl, ap, sym, subst, ◌∙◌, inl, inr, ⊎_elim, append-nil, length-append, arith}
+use Rattle.std.proofs.Common.{◌≡◌, ◌⊎◌, ℕ, ◌+◌, ◌-◌, ◌*◌, ◌%◌, ◌<◌, ◌≤◌, ◌^◌, Bool, List, [], ◌∷◌, ◌++◌, length, true, false, refl, ap, sym, subst, ◌∙◌, inl, inr, ⊎_elim, length-append, arith}
 use Rattle.std.specs.Prelude.{slice_set, slice_index, ◌==◌}
 use mathlib.Core.Option.{none, some}
 use lib.ListN.{get_elem?}
@@ -11,14 +11,13 @@ use Rattle.atomic_table.specs.Table.Act.{keeps}
 use Rattle.gp_layout.specs.Words.{words_of, tags_of, count_of, change_of}
 use Rattle.gp_ring.specs.Records.{Offer, IsOffer, fit_twice, words_for_all}
 use Rattle.gp_ring.specs.Counts.{behind, behind_all}
-use Rattle.gp_ring.specs.Course.{Course, kept_of, words_kept, loss_offer, IsBounded, IsSound, delivered, first_lost, one_lost, owing, paid}
+use Rattle.gp_ring.specs.Course.{Course, kept_of, words_kept, loss_offer, IsBounded, delivered, first_lost, one_lost, owing, paid}
 use Rattle.gp_ring.specs.kept.Traces.{laid_at}
 use Rattle.gp_ring.specs.kept.Views.{with_read, with_words, with_mark, with_label, with_delivered, owed_of, with_paid, with_overflow, with_since, with_lost, with_exchange, with_raced, with_owed, with_closed}
 use Rattle.gp_ring.specs.kept.Views.{IsWithin, IsLifted, IsCounted, loaded_read, stored_word, stored_mark, stored_label, stored_delivered, stored_paid, loaded_overflow, stored_since, stored_lost, exchanged_flush, exchanged_bump, stored_end}
-use Rattle.gp_ring.specs.kept.RingRule.{Desk, Past, AreWords, AreNumbers, IsQuiet, IsWriterIn, IsReaderIn, IsSizedAs, AllFit, IsRing, words_pulled}
+use Rattle.gp_ring.specs.kept.RingRule.{Desk, Past, AreWords, AreNumbers, IsQuiet, IsWriterIn, IsSizedAs, AllFit, IsRing, words_pulled}
 use Rattle.gp_ring.specs.declared.between.view.View.{View}
 use Rattle.gp_ring.specs.declared.between.view.WriterView.{WriterView}
-use Rattle.gp_ring.specs.declared.between.view.ReaderView.{ReaderView}
 use Rattle.gp_ring.proofs.Tracing.{behind-front}
 use Rattle.gp_ring.proofs.CourseLaws.{delivered-sound, since-sound, first-lost-sound, one-lost-sound, owing-sound, paid-sound, end-sound}
 use Rattle.gp_ring.proofs.RingWords.{store-word, store-label, store-written, store-flow, store-since, store-end}
@@ -312,8 +311,7 @@ counted ws course desk flow v a n z f =
           (λ i. (sym z.0 i, sym f.offers i, behind_all (sym z.1 i) 0 (sym f.kept i), length (sym f.kept i), sym p i, sym f.owed i, sym c i)) n.sound.bounded;
       fits = λ e.
           let e' : fit_twice course.hdrsize course.len course.tags course.offers ≡ true = (λ i. fit_twice (sym z.0 i) (sym z.1 i) (sym z.2 i) (sym f.offers i)) ∙ e in
-          let l = n.sound.lossless e' in
-          (
+          let l = n.sound.lossless e' in (
             p ∙ l.none_pending,
             subst (λ (x : ℕ × List Offer × ℕ × List Offer). behind_all x.0 0 x.1 ≤ 2 * words_for_all x.2 x.3) (λ i. (sym z.1 i, sym f.kept i, sym z.0 i, sym f.offers i)) l.words,
           );
@@ -425,9 +423,13 @@ stores_lost slots seat me word o st writes quiet is_open none_owed draft label f
     subst (λ (x : List Offer × ℕ). AllFit (record h.0 { course = first_lost h.0.course o; flow = word })
     (slice_set s.views seat (record me.0 { writer = record me.0.writer { offers = x.0; flow = word; owed = x.1 } })))
     (λ i. (sym f.2.offers i ++ o ∷ [], sym f.2.owed i))
-    (flowed h.0 s.views seat me.0 word (h.0.course.offers ++ o ∷ []) 1 (h.0.course.change + 1) h.0.course.owed me.0.writer.exchanges me.0.writer.found h.3 at writes is_open later) in
-    (with_lost me.0 o word, keeps, tt,
-    (record h.0 { course = first_lost h.0.course o; flow = word }, store-flow s.words h.0.course h.0.desk h.0.flow h.1 word (h.0.course.offers ++ o ∷ []) h.0.course.taken 1 (h.0.course.change + 1) h.0.course.owed, numbers, views), refl)
+    (flowed h.0 s.views seat me.0 word (h.0.course.offers ++ o ∷ []) 1 (h.0.course.change + 1) h.0.course.owed me.0.writer.exchanges me.0.writer.found h.3 at writes is_open later) in (
+      with_lost me.0 o word,
+      keeps,
+      tt,
+      (record h.0 { course = first_lost h.0.course o; flow = word }, store-flow s.words h.0.course h.0.desk h.0.flow h.1 word (h.0.course.offers ++ o ∷ []) h.0.course.taken 1 (h.0.course.change + 1) h.0.course.owed, numbers, views),
+      refl,
+    )
 
 -- ---- the writer's exchanges
 
@@ -502,8 +504,7 @@ flush_won s slots seat me old word h at writes is_open draft label flow_is pos n
     subst (λ (x : List Offer × ℕ). AllFit (record h.0 { course = owing h.0.course; flow = word })
     (slice_set s.views seat (record me.0 { writer = record me.0.writer { offers = x.0; flow = word; owed = x.1; exchanges = me.0.writer.exchanges + 1; found = slice_index s.words 2 } })))
     (λ i. (sym f.2.offers i, owed i))
-    (flowed h.0 s.views seat me.0 word h.0.course.offers 0 (h.0.course.change + 1) h.0.course.pending (me.0.writer.exchanges + 1) (slice_index s.words 2) h.3 at writes is_open later) in
-    (
+    (flowed h.0 s.views seat me.0 word h.0.course.offers 0 (h.0.course.change + 1) h.0.course.pending (me.0.writer.exchanges + 1) (slice_index s.words 2) h.3 at writes is_open later) in (
       with_exchange (with_owed me.0 word) (slice_index s.words 2),
       keeps,
       tt,
@@ -554,8 +555,7 @@ bump_won s slots seat me old word o h at writes is_open few pos more same e =
     subst (λ (x : List Offer × ℕ). AllFit (record h.0 { course = one_lost h.0.course o; flow = word })
     (slice_set s.views seat (record me.0 { writer = record me.0.writer { offers = x.0; flow = word; owed = x.1; exchanges = me.0.writer.exchanges + 1; found = slice_index s.words 2 } })))
     (λ i. (sym f.2.offers i ++ o ∷ [], sym f.2.owed i))
-    (flowed h.0 s.views seat me.0 word (h.0.course.offers ++ o ∷ []) (h.0.course.pending + 1) h.0.course.change h.0.course.owed (me.0.writer.exchanges + 1) (slice_index s.words 2) h.3 at writes is_open later) in
-    (
+    (flowed h.0 s.views seat me.0 word (h.0.course.offers ++ o ∷ []) (h.0.course.pending + 1) h.0.course.change h.0.course.owed (me.0.writer.exchanges + 1) (slice_index s.words 2) h.3 at writes is_open later) in (
       with_exchange (with_lost me.0 o word) (slice_index s.words 2),
       keeps,
       tt,

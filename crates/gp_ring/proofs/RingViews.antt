@@ -1,14 +1,13 @@
 -- What the seats of a ring know stays so, when either of them goes on.
-use Rattle.std.proofs.Common.{◌≡◌, ◌≢◌, ◌⊎◌, ℕ, zero, suc, ◌+◌, ◌-◌, ◌%◌, ◌<◌, ◌≤◌, Bool, List, [], ◌∷◌, ◌++◌, length, true, false, true≢false, refl, ap, sym, subst, ◌∙◌, inl, inr, ⊎_elim, append-nil, length-append, arith}
+use Rattle.std.proofs.Common.{◌≡◌, ◌≢◌, ◌⊎◌, ℕ, zero, suc, ◌+◌, ◌<◌, ◌≤◌, List, [], ◌∷◌, ◌++◌, length, true, false, true≢false, refl, ap, sym, subst, ◌∙◌, inl, inr, ⊎_elim, length-append, arith}
 use Rattle.std.specs.Prelude.{slice_set}
 use mathlib.Core.Option.{some, some-ne-none, some-injective}
 use lib.ListN.{get_elem?}
 use Rattle.std.proofs.lemmas.List.{append_assoc, nil_from_length}
 use Rattle.atomic_table.proofs.Lists.{at_set}
-use Rattle.gp_layout.specs.Words.{words_of, tags_of, count_of, change_of}
+use Rattle.gp_layout.specs.Words.{count_of, change_of}
 use Rattle.gp_ring.specs.Records.{Offer}
-use Rattle.gp_ring.specs.Counts.{behind_all}
-use Rattle.gp_ring.specs.Course.{Course, kept_of}
+use Rattle.gp_ring.specs.Course.{Course}
 use Rattle.gp_ring.specs.kept.Views.{IsLifted}
 use Rattle.gp_ring.specs.kept.RingRule.{Desk, Past, IsWriterIn, IsReaderIn, IsEarlier, IsStanding, IsSizedAs, Fits, AllFit}
 use Rattle.gp_ring.specs.declared.between.view.View.{View}

@@ -4,7 +4,7 @@ use Rattle.std.specs.Prelude.{◌≡◌, ℕ, ◌+◌, ◌*◌, ◌%◌, ◌<◌
 use Rattle.std.specs.Prelude.{List, [], ◌∷◌, ◌++◌, map, length, replicate}
 use Rattle.std.specs.List.{AllByRecursion}
 use Rattle.gp_layout.specs.Spelling.{loss_size}
-use Rattle.gp_ring.specs.Records.{Offer, RingRecord, Covers, IsOffer, head, fit_twice, words_for_all, words_for_most, all_zero}
+use Rattle.gp_ring.specs.Records.{Offer, RingRecord, Covers, head, fit_twice, words_for_all, words_for_most, all_zero}
 use Rattle.gp_ring.specs.PlainRing.{piece_for, record_of}
 use Rattle.gp_ring.specs.Follows.{samples}
 use Rattle.gp_ring.specs.Counts.{behind_all}

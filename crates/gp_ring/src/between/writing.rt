@@ -54,9 +54,9 @@ fn begin_loss(
         (seat.old.me.0.writer.offers ++ offer_of tag now header.now stack.now ∷ []) ≡ false }
     ensures table { seat.new.table_id ≡ seat.old.table_id }
     ensures view { seat.new.me ≡ (
-        with_lost (with_since seat.old.me.0 now) (offer_of tag now header.now stack.now) seat.new.me.0.writer.flow,
-        seat.old.me.1,
-      ) }
+      with_lost (with_since seat.old.me.0 now) (offer_of tag now header.now stack.now) seat.new.me.0.writer.flow,
+      seat.old.me.1,
+    ) }
 {
     store_since(shared, seat, now);
     store_lost::<Brand>(shared, seat, bump(taken(overflow)), tag, now, header, stack);

@@ -1,7 +1,6 @@
-use Rattle.std.proofs.Common.{◌≡◌, ℕ, ◌==◌, Bool, true, false, ap, arith}
+use Rattle.std.proofs.Common.{◌≡◌, ℕ, ◌==◌, true, false, ap, arith}
 use Rattle.std.proofs.lemmas.Bool.Decides.{nat_tests}
 use Rattle.atomic_table.specs.Table.{Me}
-use Rattle.gp_layout.specs.Words.{tags_of}
 use Rattle.gp_ring.specs.PlainRing.{Found, Nothing}
 use Rattle.gp_ring.specs.declared.between.view.View.{View}
 use Rattle.gp_ring.proofs.Acted.{batch-acts, none-acts, over-then, batch-reading}

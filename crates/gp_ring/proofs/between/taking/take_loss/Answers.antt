@@ -1,4 +1,4 @@
-use Rattle.std.proofs.Common.{◌≡◌, ◌∙◌, ℕ, List, true, false, ap, refl, sym, subst}
+use Rattle.std.proofs.Common.{◌∙◌, ℕ, List, true, false, ap, refl, sym, subst}
 use Rattle.atomic_table.specs.Table.{Me}
 use Rattle.gp_ring.specs.PlainRing.{Found, Taken, Nothing}
 use Rattle.gp_ring.specs.TwoEnds.{Acts}

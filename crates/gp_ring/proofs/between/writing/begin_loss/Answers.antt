@@ -1,6 +1,4 @@
 use Rattle.std.proofs.Common.{rules}
-use Rattle.gp_ring.proofs.Deciding.{deciding}
-use Rattle.gp_ring.proofs.Acted.{batch-acts}
 use Rattle.gp_ring.proofs.between.writing.begin_loss.Goals as goal
 
 pub store_lost-requires-clause-decided : goal.store_lost-requires-clause-decided

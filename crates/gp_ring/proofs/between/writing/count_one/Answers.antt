@@ -1,4 +1,4 @@
-use Rattle.std.proofs.Common.{rules, ◌∷◌, [], ◌++◌, ◌∙◌}
+use Rattle.std.proofs.Common.{◌∷◌, [], ◌++◌, ◌∙◌}
 use Rattle.gp_ring.specs.Records.{fit_twice}
 use Rattle.gp_ring.specs.Offered.{offer_of}
 use Rattle.gp_ring.proofs.Deciding.{full-some}

@@ -1,8 +1,8 @@
-use Rattle.std.proofs.Common.{◌≡◌, ◌∙◌, ℕ, ◌+◌, ◌*◌, ◌%◌, ◌<◌, ◌≤◌, ◌^◌, length, refl, ap, sym, subst, arith}
+use Rattle.std.proofs.Common.{◌≡◌, ◌∙◌, ℕ, ◌+◌, ◌%◌, ◌≤◌, length, refl, ap, sym, subst, arith}
 use Rattle.atomic_table.specs.Table.{Me}
 use Rattle.gp_layout.specs.Place.{raise_of}
 use Rattle.gp_layout.specs.Spelling.{size_of, loss_size}
-use Rattle.gp_layout.specs.Words.{words_of, tags_of}
+use Rattle.gp_layout.specs.Words.{words_of}
 use Rattle.gp_ring.specs.Offered.{offer_of}
 use Rattle.gp_ring.specs.Counts.{behind_all}
 use Rattle.gp_ring.specs.kept.Views.{with_draft, with_delivered, with_raced, with_exchange, with_owed, with_paid, owed_of}
