@@ -4,6 +4,7 @@ use crate::driver::Driver;
 use crate::figures::{Figures, nanoseconds_since};
 use crate::passed::Passed;
 use gp_cases::Unanswered;
+use gp_ring::Wrote;
 use std::alloc::Global;
 use std::rt::Clock;
 use std::sync::{Mutex, Wait};
@@ -15,7 +16,10 @@ use std::time::Instant;
 fn offer_all<R: Wait + Clock>(rt: &R, lock: &Mutex<Driver>, samples: u64) -> u64 {
     let begun = Instant::now(rt).ok();
     for number in 0..samples {
-        lock.lock(rt).write(number, number, &[1, 7]);
+        let wrote = lock.lock(rt).write(number, number, &[1, 7]);
+        if let Some(Wrote::Lost { .. }) = wrote {
+            thread::yield_now();
+        }
     }
     let writes = nanoseconds_since(rt, begun);
     lock.lock(rt).close();

@@ -1,5 +1,5 @@
-//! A ring between two threads: one offers numbered samples as fast as it can, and the other reads until the end. What it took is
-//! counted: each number came, or was counted lost once, in order.
+//! A ring between two threads: one offers numbered samples, and lets another thread run behind a lost one; the other reads until the
+//! end. What it took is counted: each number came, or was counted lost once, in order.
 ghost use Rattle.std.specs.Prelude.{◌≡◌, ◌<◌, ◌≤◌, ◌^◌, [], IfOk};
 ghost use Rattle.gp_ring.specs.Records.{Covers};
 ghost use Rattle.gp_ring_tests.specs.Driving.{numbered, IsSmall};
@@ -8,7 +8,7 @@ use crate::figures::{Figures, nanoseconds_since};
 use crate::passed::Passed;
 use crate::pauses::pause;
 use gp_cases::Unanswered;
-use gp_ring::{Closed, Reader, Taken, Writer};
+use gp_ring::{Closed, Reader, Taken, Writer, Wrote};
 use std::alloc::Global;
 use std::rt::Clock;
 use std::sync::Wait;
@@ -36,7 +36,9 @@ fn offer_all<R: Clock>(rt: &R, mut writer: Writer, samples: u64, seed: u64) -> (
     let begun = Instant::now(rt).ok();
     let mut pauses = seed;
     for number in 0..samples {
-        writer.write(number, number, &HEADER, &[7]);
+        if let Wrote::Lost { .. } = writer.write(number, number, &HEADER, &[7]) {
+            thread::yield_now();
+        }
         pauses = pause(pauses);
     }
     let writes = nanoseconds_since(rt, begun);
