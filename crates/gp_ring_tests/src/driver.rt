@@ -2,6 +2,7 @@
 ghost use Rattle.std.specs.Prelude.{◌≡◌};
 ghost use Rattle.gp_ring_tests.specs.Driving.{Drives};
 
+use crate::passed::Passed;
 use gp_cases::{Page, Unanswered};
 use gp_ring::{Ring, Wrote, law_ring};
 use std::alloc::Global;
@@ -90,6 +91,12 @@ impl Driver {
         let found = self.ring.read();
         page.debug("\n", &found)?;
         Ok(())
+    }
+
+    /// A look and an act. Gives what came in order behind this, with what was found, if that comes next.
+    pub fn pass(&mut self, passed: Passed) -> Option<Passed> {
+        self.looked = false;
+        passed.with_taken(self.ring.read())
     }
 
     /// Tells `r` and `w`.

@@ -1,17 +1,27 @@
 //! Cases of the ring of samples, lists of calls in `data/rings.txt`, and of the two ends of a ring for two threads, in
-//! `data/ends.txt`, each with what has to come of it, worked out by hand. Then samples go through a ring between two threads. With
-//! the words WORDS TAGS SAMPLES only these go through one.
+//! `data/ends.txt`, each with what has to come of it, worked out by hand. Then samples go through a ring between two threads.
+//!
+//! With the words `ends WORDS TAGS SAMPLES` only these go through one, and it is told how many were lost and how long it took; with
+//! a further word, SEED, both threads pause at random. With `locked WORDS TAGS SAMPLES` they go through a ring behind a lock.
 #![tactic(auto)]
 
 mod driver;
 mod ends;
+mod figures;
+mod locked;
+mod passed;
+mod pauses;
 mod two;
 
 use driver::Driver;
 use ends::{ClosedDriver, EndsDriver};
+use figures::Figures;
 use gp_cases::{Page, Teller, Unanswered, number_64, walk, word, words};
+use locked::go_through_locked;
+use passed::Passed;
 use std::alloc::Global;
 use std::env;
+use std::rt::{Clock, Files};
 use std::sync::Wait;
 use std::thread::Threads;
 use two::go_through;
@@ -172,32 +182,74 @@ impl Teller for OfEnds {
     }
 }
 
-// Samples go through a ring between two threads. Tells how many came or were counted lost, in order.
-fn thread_two<R: Threads + Wait + Sync + Print + AllocGlobal>(
+// Tells how many of so many samples came or were counted lost, in order.
+fn tell_passed(rt: &impl Print, passed: Passed, samples: u64) -> Result<(), Unanswered> {
+    let next = passed.next;
+    println!(rt; "two threads: {next} of {samples} samples came or were lost, in order")?;
+    if next != samples {
+        return Err(Unanswered::Form);
+    }
+    Ok(())
+}
+
+// And how many were lost, and how long it took.
+fn tell_figures(rt: &impl Print, figures: Figures, samples: u64) -> Result<(), Unanswered> {
+    tell_passed(rt, figures.passed, samples)?;
+    let Figures {
+        passed,
+        writes,
+        whole,
+    } = figures;
+    println!(rt;
+        "lost {}, writes {writes} ns, whole {whole} ns",
+        passed.lost
+    )?;
+    Ok(())
+}
+
+// Samples go through a ring between two threads, which pause at random, by this seed, unless it is 0.
+fn thread_two<R: Threads + Wait + Clock + Sync + AllocGlobal>(
     rt: &R,
     words: u64,
     tags: u64,
     samples: u64,
-) -> Result<(), Unanswered> {
+    seed: u64,
+) -> Result<Figures, Unanswered> {
     if words < 8 || words >= 1 << 28 || tags == 0 || tags >= 1 << 28 || samples >= 1 << 28 {
         return Err(Unanswered::Form);
     }
-    let (_, next) = go_through(rt, rt.alloc(), words as u32, tags as u32, samples)?;
-    println!(rt; "two threads: {next} of {samples} samples came or were lost, in order")?;
-    Ok(())
+    let crossing = go_through(rt, rt.alloc(), words as u32, tags as u32, samples, seed)?;
+    Ok(crossing.figures)
+}
+
+// The cases, and then samples between two threads.
+fn tell_all<R: Threads + Wait + Clock + Sync + Files + Print + AllocGlobal>(
+    rt: &R,
+) -> Result<(), Unanswered> {
+    walk::<OfRings>(rt, "rings.txt")?;
+    walk::<OfEnds>(rt, "ends.txt")?;
+    let figures = thread_two(rt, WORDS, TAGS, SAMPLES, 0)?;
+    tell_passed(rt, figures.passed, SAMPLES)
 }
 
 fn main(rt: HostRuntime) -> Result<(), Unanswered> {
     let words: Vec<String> = env::args(&rt)?.collect(rt.alloc())?;
-    if let [_, words, tags, samples] = words.as_slice() {
-        return thread_two(
-            &rt,
-            number_64(words.as_str())?,
-            number_64(tags.as_str())?,
-            number_64(samples.as_str())?,
-        );
+    let (kind, given) = match words.as_slice() {
+        [] | [_] => return tell_all(&rt),
+        [_, kind, given @ ..] => (kind, given),
+    };
+    let mut numbers = Vec::new(rt.alloc());
+    for word in given {
+        numbers.push(number_64(word.as_str())?)?;
     }
-    walk::<OfRings>(&rt, "rings.txt")?;
-    walk::<OfEnds>(&rt, "ends.txt")?;
-    thread_two(&rt, WORDS, TAGS, SAMPLES)
+    let &[words, tags, samples, ref seed @ ..] = numbers.as_slice() else {
+        return Err(Unanswered::Form);
+    };
+    let figures = match (kind.as_str(), seed) {
+        ("ends", []) => thread_two(&rt, words, tags, samples, 0)?,
+        ("ends", &[seed]) => thread_two(&rt, words, tags, samples, seed)?,
+        ("locked", []) => go_through_locked(&rt, rt.alloc(), words, tags, samples)?,
+        _ => return Err(Unanswered::Form),
+    };
+    tell_figures(&rt, figures, samples)
 }

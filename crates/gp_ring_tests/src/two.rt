@@ -1,124 +1,109 @@
-//! A ring between two threads: one offers numbered samples as fast as it can, and the other reads until the end. What it took is
-//! counted: each number came, or was counted lost once, in order.
+//! A ring between two threads: one offers numbered samples, and lets another thread run behind a lost one; the other reads until the
+//! end. What it took is counted: each number came, or was counted lost once, in order.
 ghost use Rattle.std.specs.Prelude.{◌≡◌, ◌<◌, ◌≤◌, ◌^◌, [], IfOk};
 ghost use Rattle.gp_ring.specs.Records.{Covers};
 ghost use Rattle.gp_ring_tests.specs.Driving.{numbered, IsSmall};
 
+use crate::figures::{Figures, nanoseconds_since};
+use crate::passed::Passed;
+use crate::pauses::pause;
 use gp_cases::Unanswered;
-use gp_ring::{Closed, Reader, Taken, Writer};
+use gp_ring::{Closed, Reader, Taken, Writer, Wrote};
 use std::alloc::Global;
+use std::rt::Clock;
 use std::sync::Wait;
 use std::thread;
 use std::thread::Threads;
+use std::time::Instant;
 
 /// The header of every sample.
 const HEADER: [u64; 1] = [1];
 
-// Offers so many samples, and closes. The number of a sample is its time and its tag.
-fn offer_all(mut writer: Writer, samples: u64) -> Closed
+/// What samples leave that went through a ring.
+#[derive(Drop)]
+pub struct Crossing {
+    pub reader: Reader,
+    pub figures: Figures,
+}
+
+// Offers so many samples, and closes. It also gives the nanoseconds that the writes took.
+fn offer_all<R: Clock>(rt: &R, mut writer: Writer, samples: u64, seed: u64) -> (Closed, u64)
     requires small { IsSmall writer.ring samples }
     requires fresh { writer.offers ≡ [] }
-    ensures ring { result.ring ≡ writer.ring }
-    ensures offers { result.offers ≡ numbered samples }
+    ensures ring { result.0.ring ≡ writer.ring }
+    ensures offers { result.0.offers ≡ numbered samples }
 {
+    let begun = Instant::now(rt).ok();
+    let mut pauses = seed;
     for number in 0..samples {
-        writer.write(number, number, &HEADER, &[7]);
-    }
-    writer.close()
-}
-
-// The number behind a record's, where the next one is `next`: a sample has that number, a loss begins with it.
-fn pass(words: &[u64], at: usize, tag: u64, next: u64) -> Option<u64> {
-    let rest = words.get(at..)?;
-    let &[_, time, header, first, ..] = rest else {
-        return None;
-    };
-    if time != next {
-        return None;
-    }
-    if header == 0 {
-        return next.checked_add(first);
-    }
-    if tag != next {
-        return None;
-    }
-    next.checked_add(1)
-}
-
-// The number behind those of a batch.
-fn follow(words: &[u64], tags: &[u64], from: u64) -> Option<u64> {
-    let mut next = from;
-    let mut at = 0;
-    for tag in tags {
-        next = pass(words, at, *tag, next)?;
-        let size = *words.get(at)?;
-        if size > 1 << 30 {
-            return None;
+        if let Wrote::Lost { .. } = writer.write(number, number, &HEADER, &[7]) {
+            thread::yield_now();
         }
-        at = at.checked_add(size as usize)?;
+        pauses = pause(pauses);
     }
-    Some(next)
+    let writes = nanoseconds_since(rt, begun);
+    (writer.close(), writes)
 }
 
-// Reads to the end, and gives the number behind all that came in order.
-fn read_all<R: Wait>(rt: &R, mut reader: Reader) -> (Reader, u64)
+// Reads to the end, and gives what came in order.
+fn read_all<R: Wait>(rt: &R, mut reader: Reader, seed: u64) -> (Reader, Passed)
     ensures ring { result.0.ring ≡ reader.ring }
 {
-    let mut next = 0;
+    let mut passed = Passed::none();
+    let mut pauses = seed;
     for _ in rt.forever() {
-        let then = match reader.read() {
-            Taken::Batch { words, tags } => follow(words, tags, next),
-            Taken::Lost { count, time } => {
-                if time == next {
-                    next.checked_add(count)
-                } else {
-                    None
-                }
-            }
-            Taken::Raced { .. } => Some(next),
-            Taken::Nothing => {
-                thread::yield_now();
-                Some(next)
-            }
-            Taken::End => None,
+        reader.look();
+        pauses = pause(pauses);
+        let Some(then) = passed.with_taken(reader.act()) else {
+            break;
         };
-        match then {
-            Some(then) => next = then,
-            None => break,
+        if then.next == passed.next {
+            thread::yield_now();
         }
+        passed = then;
     }
-    (reader, next)
+    (reader, passed)
 }
 
-/// So many samples go through a ring of so many words and tags between two threads. Afterwards the records that were taken cover
-/// them. It also gives the number behind all that came in order.
-pub fn go_through<R: Threads + Wait + Sync>(
+/// So many samples go through a ring of so many words and tags between two threads, which pause at random, by this seed, unless it
+/// is 0. Afterwards the records that were taken cover them.
+pub fn go_through<R: Threads + Wait + Clock + Sync>(
     rt: &R,
     alloc: Global,
     words: u32,
     tags: u32,
     samples: u64,
-) -> Result<(Reader, u64), Unanswered>
+    seed: u64,
+) -> Result<Crossing, Unanswered>
     requires words { (8 ≤ words) × (words < 2 ^ 28) }
     requires tags { (1 ≤ tags) × (tags < 2 ^ 28) }
     requires few { samples < 2 ^ 28 }
-    ensures { IfOk result (λ end. Covers end.0.taken (numbered samples)) }
+    ensures { IfOk result (λ crossing. Covers crossing.reader.taken (numbered samples)) }
 {
     let (writer, reader) = gp_ring::new(alloc, 1, words, tags)?;
-    let (closed, (mut reader, next)) = thread::join(
+    let begun = Instant::now(rt).ok();
+    let ((closed, writes), (mut reader, passed)) = thread::join(
         rt,
-        move || -> Closed
+        move || -> (Closed, u64)
             requires { IsSmall writer.ring samples × (writer.offers ≡ []) }
-            ensures { (result.ring ≡ writer.ring) × (result.offers ≡ numbered samples) }
-        { offer_all(writer, samples) },
-        move || -> (Reader, u64)
+            ensures { (result.0.ring ≡ writer.ring) × (result.0.offers ≡ numbered samples) }
+        { offer_all(rt, writer, samples, seed) },
+        move || -> (Reader, Passed)
             ensures { result.0.ring ≡ reader.ring }
-        { read_all(rt, reader) },
+        { read_all(rt, reader, seed.wrapping_mul(3)) },
     );
+    let whole = nanoseconds_since(rt, begun);
     match reader.shown() {
         Taken::End => {}
         _ => return Err(Unanswered::Form),
     }
     reader.settle(closed);
-    Ok((reader, next))
+    Ok(Crossing {
+        reader,
+        figures: Figures {
+            passed,
+            writes,
+            whole,
+        },
+    })
 }
