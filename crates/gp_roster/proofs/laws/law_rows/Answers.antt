@@ -1,0 +1,9 @@
+use Rattle.gp_roster.proofs.LiveRows.{live_rows_are_live}
+use Rattle.gp_roster.proofs.RowsFollow.{rows_follow}
+use Rattle.gp_roster.proofs.laws.law_rows.Goals as goal
+
+pub returns-clause-live : goal.returns-clause-live
+returns-clause-live c = live_rows_are_live
+
+pub returns-clause-follow : goal.returns-clause-follow
+returns-clause-follow c = rows_follow
