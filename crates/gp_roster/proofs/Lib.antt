@@ -1,0 +1,4 @@
+pub mod SomePoint
+pub mod LiveRows
+pub mod RowLists
+pub mod RowsFollow
