@@ -5,10 +5,10 @@
 # rounds, what is lost that of the round in which most came.
 #
 # The program of the ring's tests drives it: one thread offers a million samples of four words, yields behind each that was lost, and
-# closes; the other reads to the end, and yields where there is nothing. It is proved and built here over a copy of the sources, so the first call
-# takes as long as the proofs of the crates below it, less what earlier runs on this machine kept. With a folder in GP_RING it is left
-# there, and taken from there by the next call; with GP_GATE=passed it is the program that `rt ci` left. Go is left out where it isn't
-# installed.
+# closes; the other reads to the end, and yields where there is nothing. It is proved and built here over a copy of the sources, so the
+# first call takes as long as the proofs of the crates below it, less what earlier runs on this machine kept. With a folder in GP_RING
+# it is left there, and taken from there by the next call; with GP_GATE=passed it is the program that `rt ci` left. Go is left out where
+# it isn't installed.
 . "$(dirname -- "${BASH_SOURCE[0]}")/room.bash" "$@"
 kept=${GP_RING:-$room/kept}
 [ "${GP_GATE:-}" != passed ] || kept=$top/crates/gp_ring_tests/out

@@ -5,6 +5,7 @@
 . "$(dirname -- "${BASH_SOURCE[0]}")/head.bash"
 
 tests=$top/crates/gp_ring_tests
+: >log
 if [ "${GP_GATE:-}" != passed ]; then
   (cd -- "$tests" && rt run --jobs 1) >log 2>&1
 fi
@@ -32,6 +33,7 @@ until=$((SECONDS + ${1:-10}))
 while [ "$failures" = 0 ] && [ "$SECONDS" -lt "$until" ]; do
   for ring in '8 1' '8 2' '8 4' '16 1' '16 2' '16 4'; do
     for program in "${programs[@]}"; do
+      [ "$failures" = 0 ] || break 2
       number=$((number + 1))
       # (seeds far from one another)
       crossing "$program" $ring $((number * 7046029254386353131 & 0x7fffffffffffffff))
