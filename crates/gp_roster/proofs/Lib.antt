@@ -2,3 +2,4 @@ pub mod SomePoint
 pub mod LiveRows
 pub mod RowLists
 pub mod RowsFollow
+pub mod Lent
