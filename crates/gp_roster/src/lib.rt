@@ -4,9 +4,12 @@
 //! of `gp_tally` that is kept beside the state: it has a row for each goroutine that was born, and the row's share travels with
 //! the body. **The rows are a function of the state** (`rows_of`), so that nothing of them is counted up:
 //!
-//! | a | b | c | d |
-//! |---|---|---|---|
-//! | the function that it runs | the label set that it was born with | how many points it has passed | one above its number where it is live, else 0 |
+//! | number | what it says of the goroutine |
+//! |---|---|
+//! | a | the function that it runs |
+//! | b | the label set that it was born with |
+//! | c | how many points it has passed |
+//! | d | one above its number where it is live, else 0 |
 //!
 //! Where share and book come together, in a turn of the lock, the share's row is the book's (`Book::check`), and so a body that is
 //! in step with its share (`IsInStep` of `gp_cells`) stands where its goroutine stands in the state.
