@@ -3,3 +3,4 @@ pub mod LiveRows
 pub mod RowLists
 pub mod RowsFollow
 pub mod Lent
+pub mod Leaving

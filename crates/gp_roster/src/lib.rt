@@ -32,6 +32,10 @@
 //! **A live goroutine's trace isn't ended** (`LiveRowsAreLive`), in any legal journal of a checked program: whoever passes its last
 //! point dies with it, and whoever is born has a point, since a function has a statement, a loop has turns, and no function can
 //! call itself. So each live row is live in the sense of `gp_cells`, and a body may go home to its cell.
+//!
+//! `specs/Rows.antt` has the rows, `specs/RowLaws.antt` the laws, `specs/Lent.antt` says what a body on loan is to a call behind the
+//! lock, and what one is whose goroutine is ahead of it. Crates above take their lemmas from `proofs/Lent.antt` (what a body on loan
+//! tells), `proofs/Leaving.antt` (what an entry leaves of it), and the last part of `proofs/RowsFollow.antt` (rows kept beside a journal).
 #![tactic(auto)]
 
 mod laws;
