@@ -1,7 +1,8 @@
 -- Which row an entry changes, and to what.
-use Rattle.std.proofs.Common.{◌≡◌, ◌+◌, ◌<◌, ◌≤◌, ℕ, suc, Bool, true, false, List, [], ◌∷◌, ◌++◌, length, get_or, set, drop, Some, None, refl, sym, ap, ◌∙◌, subst, arith, if◌then◌else◌, append-nil, length-set, get_or-set_same, get_or-set_other}
+use Rattle.std.proofs.Common.{◌≡◌, ◌+◌, ◌<◌, ◌≤◌, ℕ, suc, Bool, true, false, List, [], ◌∷◌, ◌++◌, length, get_or, set, drop, Some, None, refl, sym, ap, ◌∙◌, subst, arith, if◌then◌else◌, append-nil, length-set, get_or-set_same, get_or-set_other, Option}
 use Rattle.std.proofs.lemmas.List.{length_push, drop_all, get_or_append_left}
 use Rattle.std.proofs.Math.Seq.{drop-cons}
+use Rattle.gp_isa.specs.declared.parts.Parts.{Parts}
 use Rattle.gp_tally.specs.declared.row.Row.{Row}
 use Rattle.gp_journal.specs.declared.answer.Applied.{Applied}
 use Rattle.gp_journal.specs.declared.answer.Applied.TheVariants.{Plain, Passed, Born, Blocked as Waits, Fault}
@@ -14,10 +15,10 @@ use Rattle.gp_journal.specs.Answer.{applied, op_answer}
 use Rattle.gp_journal.specs.Bodies.{standing}
 use Rattle.gp_journal.specs.Effect.{turned, recorded, passed, is_over_after, unmarked, blocked_at, woken_at, child_of, acts, after}
 use Rattle.gp_journal.specs.May.{May}
-use Rattle.gp_journal.specs.Run.{last}
-use Rattle.gp_journal.specs.State.{Code, State, nobody, goroutine, worker, births, is_live, first}
+use Rattle.gp_journal.specs.Run.{last, IsLegal, state_of}
+use Rattle.gp_journal.specs.State.{Code, State, nobody, goroutine, worker, births, is_live, first, code_of}
 use Rattle.gp_journal.specs.StepLaws.{OfEachEntry}
-use Rattle.gp_journal.proofs.Lemmas.{IsWhole, first_whole, all_whole, changed, pushed, acts_told, live_within, live_status, after_all-append, front_legal, rest_legal}
+use Rattle.gp_journal.proofs.Lemmas.{IsWhole, first_whole, all_whole, changed, pushed, acts_told, live_within, live_status, after_all-append, front_legal, rest_legal, appended}
 use Rattle.gp_roster.specs.Rows.{row_of, rows_from, rows_of}
 use Rattle.gp_roster.specs.RowLaws.{mover, passed_row, told_row, newborn_rows, rows_after, RowsAreTold, RowsFollow, NewbornsAreLast}
 use Rattle.gp_roster.proofs.RowLists.{SameRow, rows_same, rows_moved}
@@ -244,3 +245,28 @@ rows_are_told = of_each
 pub newborns_are_last : NewbornsAreLast
 newborns_are_last = of_each
     (λ code settings before entry now. (h : ℕ) (died : Bool) → applied code settings before entry ≡ Born h died → (h ≡ births before) × (births now ≡ births before + 1)) step_born
+
+-- ---- rows kept beside a journal
+
+longer : (code : Code) (settings : Settings) (journal : List Entry) (made : Entry) → IsLegal code settings journal → May code settings (last code settings journal) made → IsLegal code settings (journal ++ made ∷ [])
+longer code settings journal made legal may = appended code settings (first code settings) journal made legal may
+
+-- Rows that are the state's are the next one's too, where the entry moves nobody,
+pub rows_stay : (program : Parts) (settings : Settings) (journal : List Entry) (made : Entry) (rows : List Row) → IsLegal (code_of program) settings journal → May (code_of program) settings (state_of program settings journal) made →
+    mover made ≡ None → rows ≡ rows_of (state_of program settings journal) → rows ≡ rows_of (state_of program settings (journal ++ made ∷ []))
+rows_stay program settings journal made rows legal may none are =
+    are ∙ sym (rows_follow (code_of program) settings journal made (longer (code_of program) settings journal made legal may)
+    ∙ ap (λ (m : Option ℕ). rows_after m (state_of program settings journal) (state_of program settings (journal ++ made ∷ [])) (applied (code_of program) settings (state_of program settings journal) made)) none)
+
+-- and where it moves somebody, once that one's row is what the goroutine is now, and a newborn's stands behind the others.
+pub rows_move : (program : Parts) (settings : Settings) (journal : List Entry) (made : Entry) (rows new : List Row) (g : ℕ) → IsLegal (code_of program) settings journal →
+    May (code_of program) settings (state_of program settings journal) made → mover made ≡ Some g → rows ≡ rows_of (state_of program settings journal) →
+    new ≡ set rows g (row_of g (goroutine (state_of program settings (journal ++ made ∷ [])) g))
+    ++ newborn_rows (state_of program settings (journal ++ made ∷ [])) (applied (code_of program) settings (state_of program settings journal) made) →
+    new ≡ rows_of (state_of program settings (journal ++ made ∷ []))
+rows_move program settings journal made rows new g legal may moves are is =
+    let before = state_of program settings journal in
+    let now = state_of program settings (journal ++ made ∷ []) in
+    let told = applied (code_of program) settings before made in
+    is ∙ ap (λ (old : List Row). set old g (row_of g (goroutine now g)) ++ newborn_rows now told) are
+    ∙ sym (rows_follow (code_of program) settings journal made (longer (code_of program) settings journal made legal may) ∙ ap (λ (m : Option ℕ). rows_after m before now told) moves)

@@ -4,9 +4,12 @@
 //! of `gp_tally` that is kept beside the state: it has a row for each goroutine that was born, and the row's share travels with
 //! the body. **The rows are a function of the state** (`rows_of`), so that nothing of them is counted up:
 //!
-//! | a | b | c | d |
-//! |---|---|---|---|
-//! | the function that it runs | the label set that it was born with | how many points it has passed | one above its number where it is live, else 0 |
+//! | number | what it says of the goroutine |
+//! |---|---|
+//! | a | the function that it runs |
+//! | b | the label set that it was born with |
+//! | c | how many points it has passed |
+//! | d | one above its number where it is live, else 0 |
 //!
 //! Where share and book come together, in a turn of the lock, the share's row is the book's (`Book::check`), and so a body that is
 //! in step with its share (`IsInStep` of `gp_cells`) stands where its goroutine stands in the state.
@@ -29,6 +32,10 @@
 //! **A live goroutine's trace isn't ended** (`LiveRowsAreLive`), in any legal journal of a checked program: whoever passes its last
 //! point dies with it, and whoever is born has a point, since a function has a statement, a loop has turns, and no function can
 //! call itself. So each live row is live in the sense of `gp_cells`, and a body may go home to its cell.
+//!
+//! `specs/Rows.antt` has the rows, `specs/RowLaws.antt` the laws, `specs/Lent.antt` says what a body on loan is to a call behind the
+//! lock, and what one is whose goroutine is ahead of it. Crates above take their lemmas from `proofs/Lent.antt` (what a body on loan
+//! tells), `proofs/Leaving.antt` (what an entry leaves of it), and the last part of `proofs/RowsFollow.antt` (rows kept beside a journal).
 #![tactic(auto)]
 
 mod laws;
