@@ -277,10 +277,10 @@ module _ (program : Parts) (roster : TableId) where
       wins : get_or s.words g 0 ≡ from → Cell s.words s.homes s.views r.owner g → Goes s g seat me (Seized program roster (step slots g from to none) me) to
       wins hit (inr h) = absurd (not_both (get_or s.words g 0) (subst IsSettled (sym hit) settled) h.busy)
       wins hit (inl h) = (
-        with_cell (with_found me.0 g (get_or s.words g 0)) g to,
+        with_cell (with_found me.0 g to (get_or s.words g 0)) g to,
         takes g h.slot,
         h.at,
-        changes s r g seat to none me.0 (with_cell (with_found me.0 g (get_or s.words g 0)) g to) there at
+        changes s r g seat to none me.0 (with_cell (with_found me.0 g to (get_or s.words g 0)) g to) there at
             (λ holds. absurd (off (sym free ∙ holds)))
             (λ j u ne e holds same. let k = r.each_view j u e holds in nobody_has u same (subst IsSettled (sym hit) settled) k.same k.busy)
             (inr (busy, refl, refl, refl))
@@ -290,11 +290,11 @@ module _ (program : Parts) (roster : TableId) where
 
       misses : get_or s.words g 0 ≢ from → Goes s g seat me (Seized program roster (step slots g from to none) me) (get_or s.words g 0)
       misses miss = (
-        with_found me.0 g (get_or s.words g 0),
+        with_found me.0 g to (get_or s.words g 0),
         keeps,
         tt,
-        subst (λ (ws : List ℕ). AreCells program roster record { words = ws; homes = s.homes; views = set s.views seat (with_found me.0 g (get_or s.words g 0)) }) (sym (set_again s.words g))
-            (reviewed s r seat me.0 (with_found me.0 g (get_or s.words g 0)) at (alike me.0 (with_found me.0 g (get_or s.words g 0)) refl refl refl)),
+        subst (λ (ws : List ℕ). AreCells program roster record { words = ws; homes = s.homes; views = set s.views seat (with_found me.0 g to (get_or s.words g 0)) }) (sym (set_again s.words g))
+            (reviewed s r seat me.0 (with_found me.0 g to (get_or s.words g 0)) at (alike me.0 (with_found me.0 g to (get_or s.words g 0)) refl refl refl)),
         ((λ _. (refl, word_there (r.each_cell g there))), (λ hit. absurd (miss hit))),
       )
 

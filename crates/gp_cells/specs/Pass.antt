@@ -10,9 +10,10 @@ pub record Token : Type 0 where
   pub forks : ℕ
   -- how many bodies it holds
   pub held : ℕ
-  -- how many exchanges it made, at which cell the last one, and the word that this one found
+  -- how many exchanges it made, at which cell the last one, the word that this one offered, and the one that it found
   pub exchanges : ℕ
   pub exchanged_at : ℕ
+  pub offered : ℕ
   pub found : ℕ
   -- how many words it stored, in which cell the last one, and that word
   pub stores : ℕ
@@ -28,6 +29,7 @@ new_pass cells name = record {
   held = 0;
   exchanges = 0;
   exchanged_at = 0;
+  offered = 0;
   found = 0;
   stores = 0;
   stored_at = 0;
@@ -41,13 +43,14 @@ forked pass = record pass { forks = pass.forks + 1 }
 abbrev pub fork_of : Token → Token
 fork_of pass = new_pass pass.cells (pass.name ++ pass.forks ∷ [])
 
--- a pass after one more exchange at cell g, which found this word
-abbrev pub exchanged : Token → ℕ → ℕ → Token
-exchanged pass g found = record pass { exchanges = pass.exchanges + 1; exchanged_at = g; found = found }
+-- a pass after one more exchange at cell g, which offered one word and found another
+abbrev pub exchanged : Token → ℕ → ℕ → ℕ → Token
+exchanged pass g offered found =
+    record pass { exchanges = pass.exchanges + 1; exchanged_at = g; offered = offered; found = found }
 
 -- the same, and it holds a body more
-abbrev pub holding : Token → ℕ → ℕ → Token
-holding pass g found = record (exchanged pass g found) { held = pass.held + 1 }
+abbrev pub holding : Token → ℕ → ℕ → ℕ → Token
+holding pass g offered found = record (exchanged pass g offered found) { held = pass.held + 1 }
 
 -- a pass after it stored a word in cell g
 abbrev pub storing : Token → ℕ → ℕ → Token

@@ -234,7 +234,7 @@ impl<K: Roster, R: Run> Cells<K, R> {
         requires cell { g < self.now.count }
         requires body { IsBodyOf R.program K.roster g body }
         requires epoch { epoch < 2 ^ 30 }
-        ensures { Bears pass.old pass.new g body epoch result }
+        ensures { Bears pass.old pass.new g actor body epoch result }
     {
         let words = &self.table.shared;
         let found = seize(words, &mut pass.seat, g, DEAD, busy(false, epoch, actor));

@@ -115,9 +115,9 @@ pub(crate) fn seize<K: Roster, R: Run>(
     requires from { IsSettled from }
     requires to { IsBusy to }
     ensures table { seat.new.table_id ≡ seat.old.table_id }
-    ensures lost { result ≢ from → (seat.new.me ≡ (with_found seat.old.me.0 g result, [])) × IsWord result }
+    ensures lost { result ≢ from → (seat.new.me ≡ (with_found seat.old.me.0 g to result, [])) × IsWord result }
     ensures won { result ≡ from → (slot : Option Carried)
-        × (seat.new.me ≡ (with_cell (with_found seat.old.me.0 g result) g to, (g, slot) ∷ []))
+        × (seat.new.me ≡ (with_cell (with_found seat.old.me.0 g to result) g to, (g, slot) ∷ []))
         × Fills R.program K.roster g from slot }
 {
     words.compare_exchange::<Seizes<K, R>>(seat, g as usize, from, to)

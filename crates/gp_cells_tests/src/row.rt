@@ -1,5 +1,5 @@
 //! A row of calls on two cells by two passes, on one thread, with what each comes to.
-ghost use Rattle.std.specs.Prelude.{◌≡◌, [], length};
+ghost use Rattle.std.specs.Prelude.{◌≡◌, ◌<◌};
 ghost use Rattle.gp_cells.specs.Goroutine.{IsBodyOf};
 
 use crate::making::carried;
@@ -12,10 +12,23 @@ use std::alloc::Global;
 use std::io::Print;
 use std::marker::Brand;
 
-// What a claim came to that didn't win.
-fn tell<T: Print>(rt: &T, claim: &Claim) -> Result<(), Unanswered> {
-    match claim {
-        Claim::Held(_) => println!(rt; "claim: held")?,
+// Claims a cell for actor 2 in epoch 1, and tells what it comes to. A body that it wins goes back.
+fn tell_claim<K: Roster, R: Run, T: Print>(
+    rt: &T,
+    cells: &Cells<K, R>,
+    pass: &mut Pass,
+    g: u32,
+) -> Result<(), Unanswered>
+    requires cell { g < cells.now.count }
+    requires pass { pass.old.cells ≡ cells.now.table }
+    ensures cells { pass.new.cells ≡ pass.old.cells }
+    ensures held { pass.new.held ≡ pass.old.held }
+{
+    match cells.claim(pass, g, 2, 1) {
+        Claim::Held(held) => {
+            cells.satisfy(pass, held);
+            println!(rt; "claim: held")?;
+        }
         Claim::Satisfied(word) => println!(rt; "claim: satisfied {word}")?,
         Claim::Busy(word) => println!(rt; "claim: busy {word}")?,
         Claim::Dead(word) => println!(rt; "claim: dead {word}")?,
@@ -44,16 +57,17 @@ fn claim_row<K: Roster, R: Run, T: Print>(
     requires two { two.old.cells ≡ cells.now.table }
     ensures one { one.new.cells ≡ one.old.cells }
     ensures two { two.new.cells ≡ two.old.cells }
+    ensures held { two.new.held ≡ two.old.held }
 {
     let Claim::Held(held) = cells.claim(one, 0, 2, 1) else {
         return Err(Unanswered::Form);
     };
     let (cell, epoch, actor) = (held.cell(), held.epoch(), held.actor());
     println!(rt; "claim: held, cell {cell}, epoch {epoch}, actor {actor}")?;
-    tell(rt, &cells.claim(two, 0, 2, 1))?;
+    tell_claim(rt, cells, two, 0)?;
     cells.satisfy(one, held);
-    tell(rt, &cells.claim(two, 0, 2, 1))?;
-    tell(rt, &cells.claim(two, 1, 2, 1))
+    tell_claim(rt, cells, two, 0)?;
+    tell_claim(rt, cells, two, 1)
 }
 
 // Actor 0 takes cell 0 by a word that isn't there any more, and by the one that it was told; with the body that it then has it

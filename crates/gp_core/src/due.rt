@@ -111,7 +111,7 @@ pub(crate) fn make_due<R: Run>(
         (points_of (code_of R.program) R.settings state (due (code_of R.program) R.settings state w g)) (progress_of body.old) }
 {
     let peek = body.peek(program, limits::QUANTUM);
-    let made = machine.due(w, peek);
+    let made = machine.due(w, &peek);
     match made {
         Entry::Run { n, .. } => run(machine, program, w, g, body, n),
         Entry::Op { .. } => {

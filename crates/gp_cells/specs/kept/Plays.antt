@@ -13,9 +13,9 @@ use Rattle.gp_cells.specs.kept.CellRule.{Fills}
 -- and what was at home there.
 abbrev pub Seized : Parts → TableId → Step (Option Carried) → Me (Option Carried) View → ℕ → Me (Option Carried) View → Type 0
 Seized program roster s before found after =
-    (found ≢ s.first → (after ≡ (with_found before.0 s.word found, before.1)) × IsWord found)
+    (found ≢ s.first → (after ≡ (with_found before.0 s.word s.second found, before.1)) × IsWord found)
     × (found ≡ s.first → (slot : Option Carried)
-    × (after ≡ (with_cell (with_found before.0 s.word found) s.word s.second, (s.word, slot) ∷ before.1))
+    × (after ≡ (with_cell (with_found before.0 s.word s.second found) s.word s.second, (s.word, slot) ∷ before.1))
     × Fills program roster s.word s.first slot)
 
 -- A store, with which the slot goes home.

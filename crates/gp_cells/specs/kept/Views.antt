@@ -15,6 +15,7 @@ new_view name = record {
   held = 0;
   exchanges = 0;
   exchanged_at = 0;
+  offered = 0;
   found = 0;
   stores = 0;
   stored_at = 0;
@@ -37,15 +38,16 @@ token_of cells v = record {
   held = v.held;
   exchanges = v.exchanges;
   exchanged_at = v.exchanged_at;
+  offered = v.offered;
   found = v.found;
   stores = v.stores;
   stored_at = v.stored_at;
   stored = v.stored;
 }
 
--- an exchange at cell g found a word
-abbrev pub with_found : View → ℕ → ℕ → View
-with_found v g found = record v { exchanges = v.exchanges + 1; exchanged_at = g; found = found }
+-- an exchange at cell g offered a word and found one
+abbrev pub with_found : View → ℕ → ℕ → ℕ → View
+with_found v g offered found = record v { exchanges = v.exchanges + 1; exchanged_at = g; offered = offered; found = found }
 
 -- the slot of cell g was won, whose word became this one
 abbrev pub with_cell : View → ℕ → ℕ → View
