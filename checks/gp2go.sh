@@ -179,6 +179,14 @@ END_GP
 both names 6 goroutine block mutex
 [ "$(wc -l <names.goroutine.got)" = 4 ] || fail "names.gp: other than four stacks"
 
+# One that ends just as it is looked whether all wait.
+printf 'func main {\nwork 5300\n}\n' >short.gp
+python3 "$top/tools/gp2go" short.gp >short.go && go build -o short.run short.go || fail "short.gp is no program in Go"
+for ((i = 0; i < 30; i++)); do
+  said=$(./short.run 2>&1)
+  [ "$?:$said" = '0:end main' ] || fail "short in Go: '$said'"
+done
+
 # What isn't a program is refused.
 printf 'func main {\nwait 1\n}\n' >odd.gp
 python3 "$top/tools/gp2go" odd.gp >said 2>told

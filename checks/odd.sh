@@ -4,6 +4,7 @@
 # docs/FORMATS.md, and is answered within ten seconds. (refusals.sh has words and bytes that are refused.)
 . "$(dirname -- "${BASH_SOURCE[0]}")/head.bash"
 tried=0
+here=$PWD
 
 # try STATUS LINE WORDS..: the program's status, and the first line that it writes.
 try() {
@@ -83,6 +84,42 @@ done
 cp a.gp gen.gp
 try 0 'end main' gen 0 1
 try 0 'end main' sim gen.gp
+
+# Without a request no goroutine profile is put; one that isn't reached is served at the end, and shows nobody where all are done; and what
+# an earlier call put stays until it is put again.
+put() { ls | grep '\.pb$' | paste -sd ,; }
+mkdir earlier && cd earlier || exit 1
+try 0 'end main' sim ../a.gp
+[ "$(put)" = block.pb,cpu.pb,mutex.pb ] || fail "without a request there are $(put)"
+try 0 'end main' sim ../a.gp --at 0 --at 1099511627776
+"$gp" dump goroutine.1.pb | grep -qx 'sample 1 | main@../a.gp:2 |' || fail "the profile at the begin doesn't show main"
+"$gp" dump goroutine.2.pb | grep -q '^sample ' && fail "a profile at the end shows somebody where all are done"
+cp goroutine.2.pb ../kept.pb
+rm goroutine.1.pb
+try 0 'end main' sim ../a.gp --at end
+[ "$(put)" = block.pb,cpu.pb,goroutine.1.pb,goroutine.2.pb,mutex.pb ] && cmp -s goroutine.2.pb ../kept.pb || fail "a profile of an earlier call doesn't stay"
+cd "$here" || exit 1
+
+# A call that is killed, be it while it puts files, leaves whole ones, and maybe one by another name, which may be removed.
+mkdir killed && cd killed || exit 1
+for ((i = 0; i < 150; i += 5)); do
+  tried=$((tried + 1))
+  rm -f ./*
+  "$gp" gen 7 16 --at 1000 --at 20000 --block 1 --mutex 1 >/dev/null 2>&1 &
+  call=$!
+  sleep "$(printf '0.%04d' "$i")"
+  kill -KILL "$call" 2>/dev/null
+  { wait "$call"; } 2>/dev/null
+  for name in *; do
+    case $name in
+      gen.gp) [ "$(cd .. && "$gp" sim killed/gen.gp --entries 16 | head -n 1)" = 'end full' ] || fail "a call that was killed leaves a part of gen.gp" ;;
+      *.pb) "$gp" dump "$name" >/dev/null || fail "a call that was killed leaves a part of $name" ;;
+      '*' | *.[0-9]*.tmp) ;;
+      *) fail "a call that was killed leaves $name" ;;
+    esac
+  done
+done
+cd "$here" || exit 1
 
 # Texts.
 program 0 'end main' 'func main {\nwork 1\n}'
@@ -180,7 +217,6 @@ try 1 'usage 3 3' gen 7 1 ''
 try 0 'end main' sim a.gp --picks "$(yes 1 | head -n 65000 | paste -sd ,)"
 
 # Folders in which something stands in the way.
-here=$PWD
 for name in cpu.pb block.pb mutex.pb goroutine.1.pb; do
   mkdir -p way && cd way || exit 1
   rm -rf ./*.pb

@@ -213,6 +213,23 @@ cat >wanted.hex <<'END'
 END
 [ "$(od -An -v -tx1 cpu.pb | tr -d ' \n')" = "$(tr -d '\n' <wanted.hex)" ] || fail "cpu.pb of a.gp has other bytes"
 ticks 10000000 '1 10000000 main@a.gp:2'
+# What docs/COMMANDS.md tells of pprof: it reads a compressed one as well, and what it says of these files is harmless.
+if [ "$has_go" = yes ]; then
+  gzip -n <cpu.pb >cpu.pb.gz
+  [ "$(wc -c <cpu.pb.gz)" != "$(wc -c <cpu.pb)" ] && cmp -s <(shown cpu.pb.gz) <(shown cpu.pb) || fail "pprof shows of a compressed cpu.pb something else"
+  gunzip <cpu.pb.gz | cmp -s - cpu.pb || fail "a compressed cpu.pb is another when it's unpacked"
+  rm cpu.pb.gz
+  says() {
+    local text=$1
+    shift
+    (cd "$place" && go tool pprof "$@" 2>&1) | grep -qF -- "$text" || fail "pprof $* doesn't say '$text'"
+  }
+  place=. says 'Main binary filename not available.' -top cpu.pb
+  place=. says 'Showing nodes accounting for 0' -top block.pb
+  place=/ says 'could not find file' -list . "$PWD/cpu.pb"
+  place=/ says '1:func main {' -source_path="$PWD" -list . "$PWD/cpu.pb"
+  place=. says '1:func main {' -list . cpu.pb
+fi
 printf 'func main {\nwork 1\n}\n' >a.gp
 
 # A file of a mebibyte.

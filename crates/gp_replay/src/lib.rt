@@ -3,7 +3,8 @@
 //!
 //! A [`Replay`] has the goroutines, each with the statements at which it stands; the channels and mutexes with those that wait; whom
 //! each worker runs; and what was seen so far: at each Open the stacks and labels of all that are live, which goroutines were recorded
-//! since, the waits that ended, ticks, and what each actor did. An entry that breaks a rule isn't replayed.
+//! since, the samples, the waits that ended, those at contended unlocks, and what each actor did. An entry that breaks a rule, or that
+//! isn't the one that is due, isn't replayed.
 //!
 //! ```text
 //! func main {
@@ -15,12 +16,17 @@
 //! }
 //! ```
 //!
-//! Programs with loops aren't replayed.
+//! [`is_profile`] and [`are_covered`] tell whether the records that a run gave are those.
 #![tactic(auto)]
 
+mod agreeing;
+mod due;
 mod entering;
+mod goroutine;
 mod replay;
 mod route;
 mod waiting;
 
-pub use replay::{Profile, Replay, Shown, Sum};
+pub use agreeing::{are_covered, is_profile};
+pub use goroutine::Shown;
+pub use replay::{Event, Profile, Replay, Sample, Sum};

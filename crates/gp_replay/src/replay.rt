@@ -1,48 +1,35 @@
-//! A journal is replayed entry by entry, by the rules of the machine alone: slowly, with everything in lists. A journal that
-//! breaks a rule isn't answered.
-use crate::route::Route;
+//! What a journal comes to, as far as it was replayed.
+use crate::goroutine::{Goroutine, Shown, is_live};
 use crate::waiting::Waiting;
 use gp_cases::Unanswered;
-use gp_isa::{Frame, Program, What};
-use std::alloc::{AllocError, Global};
+use gp_isa::{Frame, Program};
+use gp_machine::{Ended, Request, Settings};
+use std::alloc::Global;
 
-/// The most frames that a profile shows of a stack.
-const FRAMES: usize = 32;
-
-#[derive(Clone, Copy, Debug, PartialEq, Eq)]
-pub(crate) enum Status {
-    Runnable,
-    Running,
-    Blocked,
-    Faulted,
-    Dead,
-}
-
-#[derive(Drop)]
-pub(crate) struct Goroutine {
-    pub(crate) route: Route,
-    pub(crate) set: u8,
-    pub(crate) status: Status,
-    pub(crate) granted: bool,
-    pub(crate) epoch: u32,
-    // clocks
-    pub(crate) blocked: u64,
-    pub(crate) woken: u64,
-}
-
-/// What a profile has of a goroutine.
-#[derive(Drop)]
-pub struct Shown {
-    pub g: u32,
-    pub frames: Vec<Frame>,
-    pub set: u8,
-}
+/// The instructions of a second.
+const SECOND: u32 = 1_000_000;
 
 /// A profile: who was live as it was opened, and the numbers of those recorded since, in their order.
 #[derive(Drop)]
 pub struct Profile {
     pub frozen: Vec<Shown>,
     pub taken: Vec<u32>,
+}
+
+/// A sample: its time in nanoseconds, and at most 64 frames of its goroutine's stack.
+#[derive(Drop)]
+pub struct Sample {
+    pub time: u64,
+    pub frames: Vec<Frame>,
+    pub set: u8,
+}
+
+/// A wait that ended, by the stack of who waited; or one at a contended unlock, by the stack of who unlocks. The delay is in
+/// nanoseconds.
+#[derive(Drop)]
+pub struct Event {
+    pub frames: Vec<Frame>,
+    pub delay: u64,
 }
 
 /// How many events there were, and how long they took together, in nanoseconds.
@@ -52,99 +39,95 @@ pub struct Sum {
     pub delay: u128,
 }
 
+impl Sum {
+    /// That of events.
+    pub fn of(events: &[Event]) -> Sum {
+        let mut sum = Sum { count: 0, delay: 0 };
+        for event in events {
+            sum.count = sum.count.saturating_add(1);
+            sum.delay = sum.delay.saturating_add(u128::from(event.delay));
+        }
+        sum
+    }
+}
+
+/// What a worker does.
+#[derive(Clone, Copy)]
+pub(crate) struct Seat {
+    pub(crate) runs: Option<u32>,
+    // the instructions since its last Start
+    pub(crate) slice: u64,
+    pub(crate) is_tick_due: bool,
+}
+
 /// What a journal comes to.
 #[derive(Drop)]
 pub struct Replay {
     pub(crate) goroutines: Vec<Goroutine>,
     pub(crate) waiting: Waiting,
+    pub(crate) seats: Vec<Seat>,
+    // the requests for profiles, and how many of them were served
+    pub(crate) requests: Vec<Request>,
+    pub(crate) served: usize,
+    // options, the period in instructions
     pub(crate) profiler: u32,
-    // by worker whom it runs
-    pub(crate) runs: Vec<Option<u32>>,
-    pub(crate) active: u32,
-    pub(crate) last: u32,
-    pub(crate) clock: u64,
     pub(crate) cells: u32,
     pub(crate) room: u32,
+    pub(crate) entries: u64,
+    pub(crate) period: u64,
+    // the active epoch, 0 where there is none, and the last one
+    pub(crate) active: u32,
+    pub(crate) last: u32,
+    /// The instructions of all workers.
+    pub clock: u64,
+    /// How many entries there were.
+    pub length: u64,
+    /// The cause of the fault that was made.
+    pub fault: Option<u8>,
     pub profiles: Vec<Profile>,
-    pub refused: u32,
-    pub ticks: u64,
+    /// How many were live at each Refuse.
+    pub refused: Vec<u32>,
+    pub samples: Vec<Sample>,
     /// By worker, the instructions.
     pub done: Vec<u64>,
     /// By actor, the entries.
     pub made: Vec<u64>,
-    pub block: Sum,
-    pub mutex: Sum,
+    pub block: Vec<Event>,
+    pub mutex: Vec<Event>,
 }
 
-pub(crate) fn more(sum: &mut Sum, delay: u64) {
-    sum.count = sum.count.saturating_add(1);
-    sum.delay = sum.delay.saturating_add(u128::from(delay));
+fn requests_of(alloc: Global, settings: &Settings) -> Result<Vec<Request>, Unanswered> {
+    let mut requests = Vec::new(alloc);
+    for request in settings.at.iter() {
+        requests.push(*request)?;
+    }
+    Ok(requests)
 }
 
-pub(crate) fn is_live(goroutine: &Goroutine) -> bool {
-    goroutine.status != Status::Dead
+fn seats_of(alloc: Global, settings: &Settings) -> Result<Vec<Seat>, Unanswered> {
+    let mut seats = Vec::new(alloc);
+    for _ in 0..settings.workers {
+        seats.push(Seat {
+            runs: None,
+            slice: 0,
+            is_tick_due: false,
+        })?;
+    }
+    Ok(seats)
 }
 
-// A rule of the machine.
-pub(crate) fn rule(holds: bool) -> Result<(), Unanswered> {
-    if holds { Ok(()) } else { Err(Unanswered::Form) }
+fn zeros(alloc: Global, count: u32) -> Result<Vec<u64>, Unanswered> {
+    let mut zeros = Vec::new(alloc);
+    for _ in 0..count {
+        zeros.push(0)?;
+    }
+    Ok(zeros)
 }
 
-impl Goroutine {
-    pub(crate) fn new(
-        alloc: Global,
-        program: &Program,
-        function: u32,
-        set: u8,
-        epoch: u32,
-    ) -> Result<Goroutine, Unanswered> {
-        Ok(Goroutine {
-            route: Route::new(alloc, program, function)?,
-            set,
-            status: Status::Runnable,
-            granted: false,
-            epoch,
-            blocked: 0,
-            woken: 0,
-        })
-    }
-
-    // Passes as many local points of one statement as there are, or as are left of `n`. It tells how many are left of that.
-    fn local(&mut self, program: &Program, n: u64) -> Result<u64, Unanswered> {
-        match self.route.next(program) {
-            Some(What::Work { n: whole }) => self.route.work(program, *whole, n),
-            Some(What::Labels { s }) => {
-                self.set = *s;
-                self.route.pass(program)?;
-                Ok(n.saturating_sub(1))
-            }
-            _ => Err(Unanswered::Form),
-        }
-    }
-
-    pub(crate) fn run(&mut self, program: &Program, n: u64) -> Result<(), Unanswered> {
-        rule(n > 0 && n <= 1000)?;
-        let mut left = n;
-        for _ in 0..1000_u32 {
-            if left > 0 {
-                left = self.local(program, left)?;
-            }
-        }
-        rule(left == 0)
-    }
-
-    pub(crate) fn shown(
-        &self,
-        alloc: Global,
-        program: &Program,
-        g: u32,
-    ) -> Result<Shown, AllocError> {
-        Ok(Shown {
-            g,
-            frames: self.route.frames(alloc, program, FRAMES)?,
-            set: self.set,
-        })
-    }
+fn first(alloc: Global, program: &Program) -> Result<Vec<Goroutine>, Unanswered> {
+    let mut goroutines = Vec::new(alloc);
+    goroutines.push(Goroutine::new(alloc, program, program.main(), 0, 0)?)?;
+    Ok(goroutines)
 }
 
 impl Replay {
@@ -152,38 +135,31 @@ impl Replay {
     pub fn new(
         alloc: Global,
         program: &Program,
-        workers: u32,
-        cells: u32,
-        room: u32,
+        settings: &Settings,
     ) -> Result<Replay, Unanswered> {
-        let mut goroutines = Vec::new(alloc);
-        goroutines.push(Goroutine::new(alloc, program, program.main(), 0, 0)?)?;
-        let mut runs = Vec::new(alloc);
-        let mut done = Vec::new(alloc);
-        let mut made = Vec::new(alloc);
-        for _ in 0..workers {
-            runs.push(None)?;
-            done.push(0)?;
-            made.push(0)?;
-        }
-        made.push(0)?;
         Ok(Replay {
-            goroutines,
+            goroutines: first(alloc, program)?,
             waiting: Waiting::new(alloc, program.parts())?,
-            profiler: workers,
-            runs,
+            seats: seats_of(alloc, settings)?,
+            requests: requests_of(alloc, settings)?,
+            served: 0,
+            profiler: settings.workers,
+            cells: settings.cells,
+            room: settings.room,
+            entries: u64::from(settings.entries),
+            period: u64::from(SECOND.checked_div(settings.hz).unwrap_or(SECOND).max(1)),
             active: 0,
             last: 0,
             clock: 0,
-            cells,
-            room,
+            length: 0,
+            fault: None,
             profiles: Vec::new(alloc),
-            refused: 0,
-            ticks: 0,
-            done,
-            made,
-            block: Sum { count: 0, delay: 0 },
-            mutex: Sum { count: 0, delay: 0 },
+            refused: Vec::new(alloc),
+            samples: Vec::new(alloc),
+            done: zeros(alloc, settings.workers)?,
+            made: zeros(alloc, settings.workers.saturating_add(1))?,
+            block: Vec::new(alloc),
+            mutex: Vec::new(alloc),
         })
     }
 
@@ -197,13 +173,31 @@ impl Replay {
         self.goroutines.iter().filter(|g| is_live(g)).count()
     }
 
-    /// Whether a profile is active.
-    pub fn is_profiled(&self) -> bool {
-        self.active > 0
-    }
-
     /// Whether nobody runs.
     pub fn is_still(&self) -> bool {
-        self.runs.iter().all(|runs| runs.is_none())
+        self.seats.iter().all(|seat| seat.runs.is_none())
+    }
+
+    /// Whether the run has come to rest: it is over, nobody runs, no profile is active, and all requests are served.
+    pub fn is_complete(&self) -> bool {
+        self.is_run_over()
+            && self.is_still()
+            && self.active == 0
+            && self.served == self.requests.len()
+    }
+
+    /// How a run ended that is complete.
+    pub fn ended(&self) -> Ended {
+        if let Some(cause) = self.fault {
+            return Ended::Fault { cause };
+        }
+        if self.is_main_dead() {
+            return Ended::Main;
+        }
+        if self.is_anybody_able() {
+            Ended::Full
+        } else {
+            Ended::Deadlock
+        }
     }
 }

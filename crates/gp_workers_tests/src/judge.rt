@@ -5,27 +5,9 @@ use gp_cpu::CpuRecord;
 use gp_events::Buckets;
 use gp_isa::Program;
 use gp_machine::{Entry, Run, Settings};
-use gp_replay::{Profile, Replay, Shown, Sum};
-use gp_stack::{Record, Records};
+use gp_replay::{Replay, Sum, are_covered, is_profile};
 use gp_workers::Finished;
 use std::alloc::{AllocError, Global};
-
-fn is_shown(record: &Record, shown: &Shown) -> bool {
-    record.g == shown.g
-        && record.set == shown.set
-        && record.stack.as_slice() == shown.frames.as_slice()
-}
-
-// The records are those of the frozen goroutines, each once, in the order of the entries that took them.
-fn is_profile(records: &Records, profile: &Profile) -> bool {
-    let as_many = records.len() == profile.frozen.len() && records.len() == profile.taken.len();
-    let mut all = as_many;
-    for (record, g) in records.iter().zip(profile.taken.iter()) {
-        let shown = profile.frozen.iter().any(|shown| is_shown(record, shown));
-        all = all && record.g == *g && shown;
-    }
-    all
-}
 
 fn are_profiles<R: Run>(run: &Finished<R>, replay: &Replay) -> bool {
     let mut all = run.records.len() == replay.profiles.len();
@@ -67,17 +49,13 @@ fn records_of<R: Run>(run: &Finished<R>) -> (u64, u64) {
     (delivered, lost)
 }
 
-// Each offer was delivered or counted lost: the rate record, and a sample of each tick.
-fn are_samples<R: Run>(run: &Finished<R>, replay: &Replay) -> bool {
-    let (delivered, lost) = records_of(run);
-    delivered.saturating_add(lost) == replay.ticks.saturating_add(1)
-}
-
 fn are_numbers<R: Run>(run: &Finished<R>, replay: &Replay) -> bool {
     run.done.as_slice() == replay.done.as_slice()
         && run.made.as_slice() == replay.made.as_slice()
         && run.machine.births() as usize == replay.born()
         && run.machine.live() as usize == replay.live()
+        && run.machine.complete()
+        && run.machine.ended() == replay.ended()
 }
 
 fn agrees<R: Run>(
@@ -92,11 +70,14 @@ fn agrees<R: Run>(
     Ok(
         are_profiles(run, replay)
             && are_numbers(run, replay)
-            && are_samples(run, replay)
-            && are_events(settings.block, block, replay.block)
-            && are_events(settings.mutex, mutex, replay.mutex)
-            && replay.is_still()
-            && !replay.is_profiled(),
+            && are_covered(
+                run.cpu.records().as_slice(),
+                settings.hz,
+                replay.samples.as_slice(),
+            )
+            && are_events(settings.block, block, Sum::of(replay.block.as_slice()))
+            && are_events(settings.mutex, mutex, Sum::of(replay.mutex.as_slice()))
+            && replay.is_complete(),
     )
 }
 
@@ -113,7 +94,7 @@ fn tell<R: Run>(page: &mut Page, run: &Finished<R>, replay: &Replay) -> Result<(
     page.number(" born ", u64::from(run.machine.births()))?;
     page.number(" live ", u64::from(run.machine.live()))?;
     page.number(" profiles ", run.records.len() as u64)?;
-    page.number(" refused ", u64::from(replay.refused))
+    page.number(" refused ", replay.refused.len() as u64)
 }
 
 // Whether a worker ran between the Open of a profile and its last Record.
@@ -160,13 +141,7 @@ pub fn judge<R: Run>(
     how: How,
 ) -> Result<Page, Unanswered> {
     let mut page = Page::new(alloc);
-    let mut replay = Replay::new(
-        alloc,
-        program,
-        settings.workers,
-        settings.cells,
-        settings.room,
-    )?;
+    let mut replay = Replay::new(alloc, program, settings)?;
     for entry in run.machine.journal() {
         if replay.enter(alloc, program, entry).is_err() {
             page.debug("breaks a rule: ", entry)?;
