@@ -142,14 +142,21 @@ failure_of() {
   esac
 }
 
-# What rt ci passed of the very same sources it takes from the kit by checksums, and runs their tests again.
-ask_gate() {
-  cd -- "$build/repo" && timeout --foreground 240 rt ci
-}
-
 # Copies what the program is made from, without what checks leave, into a folder that isn't there yet; rt wants a .git there.
 copy_sources() {
   mkdir -- "$2" "$2/.git" && (cd -- "$1" && tar cf - --exclude=out crates crates.txt HANDLES) | tar xf - -C "$2"
+}
+
+# What rt ci passed of the very same sources it takes from the kit by checksums, and builds and runs the program again. It's asked of the
+# program's crates alone, since else it would run the tests of all the others first.
+ask_gate() {
+  local own=$build/own.gate name below
+  mkdir -- "$own" "$own/.git" "$own/crates" && cp -- "$build/repo/HANDLES" "$own/" || return
+  while read -r name below; do
+    cp -R -- "$build/repo/crates/$name" "$own/crates/" &&
+      awk -F: -v name="$name" '{ split($1, head, " ") } head[1] == name' "$build/repo/crates.txt" >>"$own/crates.txt" || return
+  done < <(crates_of "$build/repo")
+  cd -- "$own" && timeout --foreground 240 rt ci
 }
 
 # Proves a crate with so many jobs, and builds its library or the program. The kit keeps others out of the folders of a crate
@@ -269,7 +276,7 @@ prepare() {
     wait_for_one || end_all
   fi
   if [ -n "${built[gate]:-}" ]; then
-    mv -- "$build/repo/crates/gp_prog/out/gp_prog" "$build/gp"
+    mv -- "$build/own.gate/crates/gp_prog/out/gp_prog" "$build/gp"
   elif ! build_all; then
     end_all
     tail -n 20 -- "$build/log.$failed" >&2

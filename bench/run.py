@@ -1,4 +1,5 @@
-"""Times runs on threads: run.py GP PROGRAMS ROUNDS [BESIDE], in an empty folder; run.sh calls it.
+"""Times runs on threads: run.py GP PROGRAMS ROUNDS [BESIDE], in an empty folder; run.sh calls it. With another build of the program
+in GP_OTHER, such as one whose reader takes the lock, what a sample costs stands beside what it costs there.
 
 Times are the least of ROUNDS rounds in which `run`, `sim` and Go take turns: the time that passes, and the processor time of all
 threads together. What a run on threads does differs from round to round, so entries and operations are those of the least time's
@@ -71,6 +72,21 @@ for kind, asked, title in (
         go_passed, go_used = (go[0].passed, go[0].used) if go else (math.nan, math.nan)
         row(workers, made, run.passed * 1e3, sim.passed * 1e3, run.passed / sim.passed, go_passed * 1e3, run.passed / made * 1e9, run.used * 1e3, go_used * 1e3, run.memory)
     print(f"{'':>14}{operations} operations")
+
+print("\nSamples: the mixed program with a sample at each instruction (`--hz 1000000`), less the same with next to none (`--hz 1`), by samples.")
+print("A sample's time holds its Tick and its Run, what the worker does to offer it, and its part of `cpu.pb`.")
+other = [os.environ["GP_OTHER"]] if os.environ.get("GP_OTHER") else []
+head("workers", "samples", "lost", "run, ns", "run cpu, ns", "sim, ns", *(["other, ns", "other cpu, ns"] if other else []))
+program(programs, "it.gp", "mixed", 64)
+for workers in (1, 2, 4):
+    options = ["it.gp", "--workers", workers, "--entries", MOST]
+    ways = [[gp, "run"], [gp, "sim"], *([it, "run"] for it in other)]
+    found = measure([([*way, *options, "--hz", hz], None) for way in ways for hz in (1_000_000, 1)])
+    each = []
+    for many, few in zip(found[::2], found[1::2]):
+        more = max(many.number("ticks") - few.number("ticks"), 1)
+        each += [(many.passed - few.passed) / more * 1e9, (many.used - few.used) / more * 1e9]
+    row(workers, found[0].number("ticks"), found[0].number("lost"), each[0], each[1], each[2], *each[4:])
 
 print("\nProfiles of 16,384 goroutines while four workers go on: a run with eight profiles, less one with none, by eight.")
 head("workers", "run, ms", "sim, ms", "MiB")

@@ -30,6 +30,12 @@ case $1 in
     echo 'a kit of nothing'
     exit
     ;;
+  ci)
+    echo "asked of $(ls crates | paste -sd ' '): $(sort crates.txt | paste -sd ';')" >>"$STUB/log"
+    [ ! -e "$STUB/fail.gate" ] || exit 1
+    mkdir -p crates/gp_prog/out && printf '#!/bin/sh\necho "the gate ran $*"\nexit 5\n' >crates/gp_prog/out/gp_prog
+    exit
+    ;;
 esac
 name=${PWD##*/}
 echo "begin $name" >>"$STUB/log"
@@ -236,6 +242,53 @@ echo '// other' >>repo/crates/left/src/lib.rt
 call 4 x
 tells '2 of 4 crates are built already'
 logged 'begin left' 'end left' 'begin gp_prog' 'end gp_prog'
+
+# Where a gate left a program, rt ci is asked first, of the program's crates alone; where it doesn't pass, all is built. With GP_GATE the
+# program that the gate left is run as it is.
+anew
+rm -rf repo/out
+mkdir repo/crates/gp_prog/out && printf '#!/bin/sh\necho "left $*"\nexit 7\n' >repo/crates/gp_prog/out/gp_prog
+: >repo/crates/gp_prog/out/gp_prog.by-rattle && chmod 755 repo/crates/gp_prog/out/*
+call 5 x
+tells 'asking rt ci for what it proved of these sources'
+[ "$(cat said)" = 'the gate ran x' ] || fail "of what the gate proved: '$(cat said)'"
+asked='asked of gp_prog left low right: gp_prog: left right;left: low;low:;right: low'
+logged "$asked"
+[ "$(ls repo/out | paste -sd,)" = gp,gp.lock,gp.sum ] || fail "in out/ stand $(ls repo/out)"
+anew
+touch stub/fail.gate
+call 4 x
+logged "$asked" "${all[@]}"
+rm -rf repo/out
+GP_GATE=passed call 7 y
+[ "$(cat said)$(cat told)" = 'left y' ] && [ ! -e repo/out ] || fail "with GP_GATE: '$(cat said told)'"
+GP_GATE=passed call 0 --version
+grep -qxF "program $here/repo/crates/gp_prog/out/gp_prog" said || fail "--version with GP_GATE: '$(cat said)'"
+rm -rf repo/crates/gp_prog/out
+
+# In a checkout that can't be written, a program that was built runs, and one that wasn't is told. (Whoever is root writes everywhere.)
+anew
+call 4 x
+if [ "$(id -u)" != 0 ] || setpriv --bounding-set=-all --inh-caps=-all true 2>/dev/null; then
+  bare=()
+  [ "$(id -u)" != 0 ] || bare=(setpriv --bounding-set=-all --inh-caps=-all)
+  chmod 555 repo repo/out
+  chmod 444 repo/out/*.*
+  "${bare[@]}" ./repo/gp x >said 2>told
+  [ "$?$(cat said)" = '4ran x' ] || fail "in a checkout that can't be written: '$(cat said told)'"
+  echo '// more' >>repo/crates/low/src/lib.rt
+  "${bare[@]}" ./repo/gp x >said 2>told
+  [ "$?" = 125 ] && tells 'cannot write' || fail "in a checkout that can't be written, with other sources: '$(cat said told)'"
+  chmod 755 repo repo/out
+  rm -rf repo/out
+  chmod 555 repo
+  "${bare[@]}" ./repo/gp x >said 2>told
+  [ "$?" = 125 ] && tells 'cannot write' || fail "in a checkout that can't be written, from nothing: '$(cat said told)'"
+  chmod 755 repo
+else
+  echo "skipped: a checkout that can't be written (whoever is root writes everywhere, and there is no setpriv)"
+fi
+
 mkdir -p only
 for tool in readlink dirname; do ln -sf -- "$(command -v "$tool")" only/; done
 said=$(PATH=$here/only "$BASH" repo/gp x 2>&1)

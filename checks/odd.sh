@@ -1,10 +1,13 @@
 #!/usr/bin/env bash
-# Tries odd inputs, in the folder that this is started in: files by odd names, odd texts of programs and names in them, options at their
-# ends, folders in which something stands in the way, odd outputs. Each has a status and a first line by docs/COMMANDS.md and
-# docs/FORMATS.md, and is answered within ten seconds. (refusals.sh has words and bytes that are refused.)
+# Tries odd inputs, in the folder that this is started in: files by odd names and of another kind, odd texts of programs and names in them,
+# options at their ends, each one twice, folders in which something stands in the way, odd outputs, want of memory, calls that are killed
+# and calls beside one another. Each has a status and a first line by docs/COMMANDS.md and docs/FORMATS.md, and is answered within ten
+# seconds; what is put is whole. (refusals.sh has words and bytes that are refused.)
 . "$(dirname -- "${BASH_SOURCE[0]}")/head.bash"
 tried=0
 here=$PWD
+# (what goes before the program, where it's to be called otherwise)
+as=()
 
 # try STATUS LINE WORDS..: the program's status, and the first line that it writes.
 try() {
@@ -12,7 +15,7 @@ try() {
   shift 2
   words="$*"
   tried=$((tried + 1))
-  timeout 10 "$gp" "$@" >said 2>told
+  timeout 10 "${as[@]}" "$gp" "$@" >said 2>told
   got=$?
   [ "$got" = "$wanted" ] && [ "$(head -n 1 said)" = "$line" ] && [ ! -s told ] && return
   fail "gp ${words:0:200}: status $got, '$(head -n 1 said)$(cat told)' in place of status $wanted, '$line'"
@@ -24,6 +27,16 @@ program() {
   printf "$3" >odd.gp
   try "$1" "$2" sim odd.gp --at 0
   [ "$failures" = "$before" ] || echo "  (odd.gp holds '${3:0:200}')"
+}
+
+# stands NAME..: these stand here and nothing else, besides what `try` keeps, and those of them that are profiles are whole.
+stands() {
+  local name wanted
+  wanted=$(printf '%s\n' "$@" | sort | paste -sd ,)
+  [ "$(ls -A | grep -vx -e said -e told | paste -sd ,)" = "$wanted" ] || fail "here stand $(ls -A | paste -sd ,) in place of $wanted"
+  for name in "$@"; do
+    [[ ! -f $name || $name != *.pb ]] || "$gp" dump "$name" >/dev/null || fail "of $name a part stands here"
+  done
 }
 
 # many COUNT TEXT: this text so many times, with the number in place of each @.
@@ -74,6 +87,40 @@ try 0 'end main' sim /dev/stdin <a.gp
 try 0 'end main' sim <(cat a.gp)
 try 3 'read fault' dump .
 try 2 'refused at 0 cause 8' dump /dev/null
+mkfifo pipe.gp
+cat a.gp >pipe.gp &
+try 0 'end main' sim pipe.gp
+
+# Files of another kind: a profile as a program, a program as a profile, compressed ones, UTF-16, zeros.
+try 0 'end main' sim a.gp
+try 2 'refused line 2 cause 1' sim cpu.pb
+try 2 'refused at 0 cause 3' dump a.gp
+for name in a.gp cpu.pb; do gzip -n <"$name" >"$name.gz"; done
+try 2 'refused line 1 cause 6' sim a.gp.gz
+try 2 'refused at 0 cause 3' dump cpu.pb.gz
+gunzip <cpu.pb.gz >plain.pb
+try 0 'type samples count' dump plain.pb
+program 2 'refused line 1 cause 6' '\xff\xfef\0u\0n\0c\0'
+program 2 'refused line 1 cause 1' 'f\0u\0n\0c\0'
+program 2 'refused line 1 cause 1' '\0\0\0\n'
+
+# Each cause in a profile: cut, a number of more than 64 bits, a wire type, a field number, a text, two that name what isn't there, and
+# no string table.
+profile() {
+  printf "$2" >odd.pb
+  try 2 "$1" dump odd.pb
+}
+profile 'refused at 2 cause 1' '\x32\x00\x0a\x7f'
+profile 'refused at 2 cause 2' '\x32\x00\x08\xff\xff\xff\xff\xff\xff\xff\xff\xff\x02'
+profile 'refused at 2 cause 3' '\x32\x00\x0b'
+profile 'refused at 2 cause 4' '\x32\x00\x00'
+profile 'refused at 2 cause 5' '\x32\x00\x32\x01\xff'
+profile 'refused at 6 cause 6' '\x32\x00\x0a\x02\x08\x05'
+profile 'refused at 4 cause 7' '\x32\x00\x22\x00'
+profile 'refused at 3 cause 8' '\x32\x01a'
+# (the least that is one)
+printf '\x32\x00' >odd.pb
+try 0 'period - - 0' dump odd.pb
 
 # A file by a name that is put: it's read before, and the profile stands in its place.
 for name in cpu.pb goroutine.1.pb block.pb mutex.pb; do
@@ -216,12 +263,36 @@ try 1 'usage 3 3' gen 7 1 ''
 # (the system passes 131,072 bytes in one word at most, where it's Linux with pages of four kibibytes)
 try 0 'end main' sim a.gp --picks "$(yes 1 | head -n 65000 | paste -sd ,)"
 
-# Folders in which something stands in the way.
-for name in cpu.pb block.pb mutex.pb goroutine.1.pb; do
+# Numbers of four hundred digits.
+long=$(word 7 400)
+for option in --at --seed --room --workers --entries; do try 1 'usage 3 4' sim a.gp "$option" "$long"; done
+try 1 'usage 3 4' sim a.gp --picks "1,$long"
+try 1 'usage 1 4' gen "$long" 1
+program 2 'refused line 2 cause 1' "func main {\nwork $long\n}\n"
+program 2 'refused line 2 cause 1' "func main {\nloop $long {\nwork 1\n}\n}\n"
+program 2 'refused line 1 cause 1' "chan c $long\n$one"
+
+# Words that people try, and each option twice.
+for words in -v version 'help run' '-h sim'; do try 1 'usage 0 1' $words; done
+for words in 'sim -' 'sim -- a.gp' 'run --help' 'run -h' 'dump -'; do try 1 'usage 1 6' $words; done
+for words in 'sim a.gp --help' 'sim a.gp a.gp' 'run a.gp -w 4' 'run a.gp > out'; do try 1 'usage 2 3' $words; done
+for option in workers room hz block mutex cells entries ring tags seed picks; do
+  value=1
+  case $option in entries | ring) value=16 ;; esac
+  try 1 'usage 4 5' sim a.gp "--$option" "$value" "--$option" "$value"
+  try 1 'usage 5 5' gen 7 1 "--$option" "$value" "--$option" "$value"
+  [ "$option" = picks ] || try 1 'usage 4 5' run a.gp "--$option" "$value" "--$option" "$value"
+done
+
+# Folders in which something stands in the way: what is put before it is whole, and nothing is put behind it.
+before=()
+for name in goroutine.1.pb cpu.pb block.pb mutex.pb; do
   mkdir -p way && cd way || exit 1
-  rm -rf ./*.pb
+  rm -rf ./*
   mkdir "$name"
   try 4 '' sim ../a.gp --at 0
+  stands "${before[@]}" "$name"
+  before+=("$name")
   rmdir "$name"
   # a link, be it lost, and a pipe are replaced, and what a link leads to isn't touched
   echo old >kept
@@ -253,11 +324,33 @@ tried=$((tried + 1))
 "$gp" sim "$here/a.gp" >/dev/null 2>&1
 [ $? = 4 ] || fail "in a folder that is gone: another status than 4"
 cd "$here" || exit 1
-if [ "$(id -u)" != 0 ]; then
-  mkdir shut && chmod 555 shut && cd shut && try 4 '' sim ../a.gp
-  cd "$here" && chmod 000 link.gp && try 3 'read fault' sim a.gp
+mkdir made && cd made && mkdir gen.gp || exit 1
+try 4 '' gen 7 1
+stands gen.gp
+cd "$here" || exit 1
+# (whoever is root writes and reads everywhere, unless without what makes root more than others)
+[ "$(id -u)" != 0 ] || as=(setpriv --bounding-set=-all --inh-caps=-all)
+if "${as[@]}" true 2>/dev/null; then
+  mkdir shut && cp cpu.pb shut/ && chmod 555 shut && cd shut || exit 1
+  # (what it says goes elsewhere)
+  tried=$((tried + 1))
+  "${as[@]}" "$gp" sim ../a.gp >"$here/said" 2>&1
+  [ "$?$(cat "$here/said")" = 4 ] || fail "in a folder that may not be written to: '$(cat "$here/said")' in place of status 4"
+  stands cpu.pb
+  cd "$here" && chmod 755 shut || exit 1
+  chmod 000 a.gp
+  try 3 'read fault' sim a.gp
   chmod 644 a.gp
+  mkdir hidden && cp a.gp hidden/ && chmod 600 hidden
+  try 3 'read fault' sim hidden/a.gp
+  chmod 755 hidden
+  # (a file that may not be written to is replaced, as the folder may be)
+  chmod 444 cpu.pb
+  try 0 'end main' sim a.gp
+else
+  echo "skipped: folders and files that may not be written or read (whoever is root may, and there is no setpriv)"
 fi
+as=()
 
 # How it is called, and where its output goes.
 # ends STATUS COMMAND: the status of a command in which "$0" is the launcher.
@@ -284,6 +377,34 @@ ends 0 'IFS=/ CDPATH=/ BASH_ENV=/dev/null "$0" sim a.gp'
 ends 0 'umask 777; "$0" sim a.gp'
 ends 126 '"$0" sim a.gp --picks "$(yes 1 | head -n 100000 | paste -sd ,)"'
 chmod -f 644 ./*.pb
+# a limit of a file's length, where it's told and doesn't kill
+mkdir small && cd small && cp ../a.gp . || exit 1
+ends 4 "trap '' XFSZ; ulimit -f 0; \"\$0\" sim a.gp --at 0"
+stands a.gp
+cd "$here" || exit 1
 
-[ "$tried" -ge 150 ] || fail "only $tried were tried"
+# Want of memory: nothing is written.
+program=$("$gp" --version | sed -n 's/^program //p')
+mkdir narrow && cd narrow || exit 1
+tried=$((tried + 1))
+said=$(ulimit -v 100000 && "$program" sim ../a.gp --cells 16384 --entries 4194304 2>&1)
+[ "$?:$said" = 9: ] || fail "with too little memory: '$said' in place of status 9"
+stands ''
+cd "$here" || exit 1
+
+# Calls beside one another, in one folder: all end well, and each file is one of theirs, whole.
+mkdir beside && cd beside || exit 1
+calls=()
+for ((i = 0; i < 8; i++)); do
+  "$gp" sim ../a.gp --at 0 --block 1 --seed "$i" >/dev/null 2>&1 &
+  calls+=("$!")
+done
+for call in "${calls[@]}"; do
+  tried=$((tried + 1))
+  wait "$call" || fail "of calls beside one another one ends with status $?"
+done
+stands block.pb cpu.pb goroutine.1.pb mutex.pb
+cd "$here" || exit 1
+
+[ "$tried" -ge 260 ] || fail "only $tried were tried"
 [ "$failures" = 0 ]

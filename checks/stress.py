@@ -1,12 +1,17 @@
 """Feeds runs to the program gp_stress, and looks at what it tells of them: stress.py PROGRAM RUNS SEED. (checks/stress.sh says more.)"""
 import collections
+import itertools
+import os
 import random
 import resource
 import select
+import statistics
 import subprocess
 import sys
 
 SECONDS = 60  # a run that takes longer hangs
+MANY = 1000  # among so many runs there are some with each of these
+WANTED = "within", "by workers", "losses", "block", "mutex", "refused", "records", "ticks"
 
 
 # ---------------------------------------------------------------- programs, as lists of lines
@@ -203,7 +208,9 @@ class Program:
 
     def __init__(self, path, most=None):
         limit = (lambda: resource.setrlimit(resource.RLIMIT_AS, (most, most))) if most else None
-        self.process = subprocess.Popen([path], stdin=subprocess.PIPE, stdout=subprocess.PIPE, preexec_fn=limit)
+        # (with one heap for all threads, and what is free given back, it holds as much after each run)
+        words = dict(os.environ, MALLOC_ARENA_MAX="1", MALLOC_MMAP_THRESHOLD_="131072", MALLOC_TRIM_THRESHOLD_="131072")
+        self.process = subprocess.Popen([path], stdin=subprocess.PIPE, stdout=subprocess.PIPE, preexec_fn=limit, env=words)
 
     def answer(self, line):
         self.process.stdin.write(line.encode())
@@ -243,7 +250,10 @@ def fails(text):
 def stress(path, runs, seed):
     rng, program = random.Random(seed), Program(path)
     statuses, had, memory, right = collections.Counter(), collections.Counter(), [], True
-    for at in range(runs):
+    for at in itertools.count():
+        # (on a busy machine threads come to run at once less often)
+        if at >= runs and (runs < MANY or at >= 5 * runs or all(had[name] for name in WANTED)):
+            break
         line, wanted = run_line(rng, at)
         answer = program.answer(line)
         told = numbers(answer)
@@ -280,19 +290,20 @@ def main(path, runs, seed):
     if set(ever_more[:-1]) != {9} or ever_more[-1] != 0:
         right = fails("in ever more memory a run ends with status %s" % ever_more)
     statuses.update(ever_more[:-1])
-    early = max(memory[:max(1, len(memory) // 4)], default=0)
-    late = memory[-1] if memory else 0
-    print("  %d runs; of each status %s; memory %d KiB at most in the first quarter, %d at the end; runs with %s" % (
+    # (stacks of threads that are kept make a step now and then)
+    quarter = max(1, len(memory) // 4)
+    early, late = (int(statistics.median(it or [0])) for it in (memory[quarter:2 * quarter], memory[-quarter:]))
+    print("  %d runs; of each status %s; memory %d KiB in the second quarter, %d in the last; runs with %s" % (
         sum(statuses.values()), ", ".join("%s: %d" % pair for pair in sorted(statuses.items(), key=str)), early, late,
-        ", ".join("%s %d" % (name, had[name]) for name in ("within", "by workers", "losses", "block", "mutex", "refused"))))
-    if runs >= 100:
+        ", ".join("%s %d" % (name, had[name]) for name in WANTED)))
+    if runs >= MANY:
         missing = [k for k in range(10) if not statuses[k]]
         if missing:
             right = fails("status %s never came" % missing)
-        absent = [name for name in ("within", "by workers", "losses", "block", "mutex", "refused", "records", "ticks") if not had[name]]
+        absent = [name for name in WANTED if not had[name]]
         if absent:
             right = fails("no run had %s" % absent)
-        if late > early + early // 8 + 2048:
+        if late > early + 2048:
             right = fails("memory grew from %d to %d KiB" % (early, late))
     return 0 if right else 1
 

@@ -1,5 +1,5 @@
 #!/usr/bin/env bash
-# Runs programs made by rules on threads, as many as its first word says (150 without one), under 1 to 16 workers and other options, by
+# Runs programs made by rules on threads, as many as its first word says (1000 without one), under 1 to 16 workers and other options, by
 # the program `gp_stress`, as both compilers make it. It holds each run against its journal, replayed by the rules of the machine alone:
 # records, samples, numbers, each file, the summary, the status. Here stands that nothing was wrong, that each status came, that the runs
 # had what they are for (workers that go on within a profile, losses, waits ..), and that memory doesn't grow over the runs. A second word
@@ -18,9 +18,9 @@ if ! [ -x "$stress" ]; then
   echo "skipped: gp_stress isn't built (rt ci gp_stress does it)"
   exit 0
 fi
-python3 "$top/checks/stress.py" "$stress" "${1:-150}" "${2:-1}" || failures=1
+python3 "$top/checks/stress.py" "$stress" "${1:-1000}" "${2:-1}" || failures=1
 if [ -x "$stress.by-rattle" ]; then
-  python3 "$top/checks/stress.py" "$stress.by-rattle" "$((${1:-150} / 3))" "$((${2:-1} + 1))" || failures=1
+  python3 "$top/checks/stress.py" "$stress.by-rattle" "${1:-1000}" "$((${2:-1} + 1))" || failures=1
 fi
 
 [ "$failures" = 0 ]

@@ -1,9 +1,9 @@
 //! The active profile is closed, and the profiler finishes.
-ghost use Rattle.std.specs.Prelude.{◌≡◌, ◌≢◌, ◌<◌};
+ghost use Rattle.std.specs.Prelude.{◌≡◌, ◌<◌};
 ghost use Rattle.gp_journal.specs.Due.{IsComplete};
 ghost use Rattle.gp_journal.specs.Run.{state_of};
 ghost use Rattle.gp_journal.specs.State.{code_of};
-ghost use Rattle.gp_ring.specs.PlainRing.{closed};
+ghost use Rattle.gp_world.specs.RingEnds.{shut_of};
 ghost use Rattle.gp_world.specs.Rows.{profiler_row, finished_row, has_finished};
 ghost use Rattle.gp_profiler.specs.Calls.{with_entry, share_with, closing_of, closing_entry};
 
@@ -37,8 +37,8 @@ pub fn finish<R: Run>(world: &mut World<R>, who: &mut Share)
     requires book { who.old.book ≡ world.old.book }
     requires profiler { who.old.number ≡ R.settings.workers }
     requires complete { IsComplete R.settings (state_of R.program R.settings world.old.journal) }
-    requires unfinished { who.old.row.a ≢ has_finished }
-    ensures scene { world.new ≡ record world.old { ring = closed world.old.ring } }
+    requires unfinished { who.old.row.a < has_finished }
+    ensures scene { world.new ≡ record world.old { ring = shut_of world.old.ring } }
     ensures share { who.new ≡ record who.old { row = finished_row R.program R.settings world.old.journal } }
 {
     world.shut(who);

@@ -18,13 +18,13 @@ use Rattle.gp_ring.specs.Course.{Course, first_course, kept_of, loss_offer, reco
 use Rattle.gp_ring.specs.kept.Traces.{all_laid, labels_from, Stands, first_word, IsDueAt}
 use Rattle.gp_ring.specs.kept.Views.{first_view, nobody, writer_of, reader_of, with_writer, with_end, with_flow, is_none, with_ahead, without_words, without_labels, with_batch, with_time, loss_of, with_loss, without_loss}
 use Rattle.gp_ring.specs.kept.Views.{IsAhead, IsAll, loaded_end, loaded_flow, loaded_written, loaded_word, loaded_label, stored_read, loaded_since, exchanged_loss}
-use Rattle.gp_ring.specs.kept.RingRule.{Desk, Past, AreWords, AreNumbers, IsWriterIn, IsReaderIn, IsEarlier, IsStanding, IsSizedAs, Fits, AllFit, IsRing, words_pulled}
+use Rattle.gp_ring.specs.kept.RingRule.{Desk, Past, AreWords, AreNumbers, IsWriterIn, IsReaderIn, IsStanding, IsSizedAs, Fits, AllFit, IsRing, words_pulled}
 use Rattle.gp_ring.specs.declared.between.view.View.{View}
 use Rattle.gp_ring.specs.declared.between.view.ReaderView.{ReaderView}
 use Rattle.gp_ring.proofs.Tracing.{AreFrom, laid-append, labels-append, from-right, from-laid, from-labels, stands-left, stands-right, due-word, shorter}
 use Rattle.gp_ring.proofs.CourseLaws.{first-sound, batch-sound, lifted-sound, none-all}
 use Rattle.gp_ring.proofs.RingWords.{store-read, store-flow}
-use Rattle.gp_ring.proofs.RingViews.{off, at_end, all_set, no_writer, no_reader, reader_goes, writer-batch, writer-lifted, none_left}
+use Rattle.gp_ring.proofs.RingViews.{off, at_end, all_set, no_writer, no_reader, reader_goes, writer-batch, writer-lifted, none_left, earlier_self}
 use Rattle.gp_ring.proofs.RingSteps.{Goes, same_words, won_is, raced_is, same_or}
 
 -- all views, when the reader knows more, and nothing else changed
@@ -64,6 +64,7 @@ loads_end slots seat me st reads s h count at bits =
       due = f.2.due;
       due_labels = f.2.due_labels;
       earlier = f.2.earlier;
+      found_earlier = f.2.found_earlier;
       seen = f.2.seen;
       timed = f.2.timed;
       end_found = λ e. ended_is h.0.course.ended (slice_index s.words 4) h.1.counts.end_is e;
@@ -84,9 +85,6 @@ loads_end slots seat me st reads s h count at bits =
 
 -- ---- overflow is loaded
 
-earlier_self : (a b : ℕ) → a ≡ b → IsEarlier a b
-earlier_self a b e = let c : change_of a ≡ change_of b = ap change_of e in let d : count_of a ≡ count_of b = ap count_of e in record { change = omega arith; count = λ _. omega arith }
-
 is_one : (k : ℕ) → (k == 1) ≡ true → k ≡ 1
 is_one k e = grind (arith, nat_tests)
 
@@ -104,6 +102,7 @@ loads_flow slots seat me st reads s h count at bits =
       due = f.2.due;
       due_labels = f.2.due_labels;
       earlier = earlier_self (slice_index s.words 2) h.0.flow found;
+      found_earlier = f.2.found_earlier;
       seen = λ _ e. absurd (off e);
       timed = λ _ e. absurd (off e);
       end_found = f.2.end_found;
@@ -153,6 +152,7 @@ loads_written slots seat me st reads s h count at bits =
       due = ([], (λ i. all_laid (f.1.1 i) (behind_all (f.1.1 i) 0 (f.2.pulled i)) h.0.course.unread));
       due_labels = ([], (λ i. labels_from (length (f.2.pulled i)) h.0.course.unread));
       earlier = f.2.earlier;
+      found_earlier = f.2.found_earlier;
       seen = λ _ _. refl;
       timed = f.2.timed;
       end_found = f.2.end_found;
@@ -238,6 +238,7 @@ loads_word slots seat place me st reads due s h count at bits =
       due = shorter f.2.due.0 me.0.reader.due (all_laid h.0.course.len (words_pulled h.0.course) me.0.reader.ahead) f.2.due.1;
       due_labels = f.2.due_labels;
       earlier = f.2.earlier;
+      found_earlier = f.2.found_earlier;
       seen = f.2.seen;
       timed = f.2.timed;
       end_found = f.2.end_found;
@@ -266,6 +267,7 @@ loads_label slots seat len place me st reads len_is due s h count at bits =
       due = f.2.due;
       due_labels = shorter f.2.due_labels.0 me.0.reader.due_labels (labels_from (length h.0.course.pulled) me.0.reader.ahead) f.2.due_labels.1;
       earlier = f.2.earlier;
+      found_earlier = f.2.found_earlier;
       seen = f.2.seen;
       timed = f.2.timed;
       end_found = f.2.end_found;
@@ -302,6 +304,7 @@ stores_read slots seat me r st reads due due_labels words labels s h count at bi
       due = ([], due);
       due_labels = ([], due_labels);
       earlier = f.2.earlier;
+      found_earlier = f.2.found_earlier;
       seen = λ a b. gone (f.2.seen a b);
       timed = f.2.timed;
       end_found = f.2.end_found;
@@ -332,6 +335,7 @@ loads_since slots seat me st reads s h count at bits =
       due = f.2.due;
       due_labels = f.2.due_labels;
       earlier = f.2.earlier;
+      found_earlier = f.2.found_earlier;
       seen = f.2.seen;
       timed = λ _ _. h.1.counts.since_is;
       end_found = f.2.end_found;
@@ -357,6 +361,7 @@ loss_won s slots seat me old word h at reads flow_is pos has_seen is_timed none_
     let time : me.0.reader.time ≡ h.0.course.since = f.2.timed stands is_timed in
     let change : change_of word ≡ change_of h.0.flow + 1 = next ∙ ap (λ (k : ℕ). change_of k + 1) (sym flow) in
     let change_seen : change_of word ≡ change_of me.0.reader.overflow + 1 = next ∙ ap (λ (k : ℕ). change_of k + 1) (sym flow_is) in
+    let change_found : change_of word ≡ change_of (slice_index s.words 2) + 1 = next ∙ ap (λ (k : ℕ). change_of k + 1) (sym e) in
     let loss : loss_of me.0 ≡ loss_offer h.0.course.hdrsize h.0.course.pending h.0.course.since =
     (λ i. loss_offer (f.1.0 i) ((ap count_of (sym stands.same) ∙ h.2.pending) i) (time i)) in
     let numbers : AreNumbers (lifted h.0.course) h.0.desk word = record {
@@ -374,6 +379,7 @@ loss_won s slots seat me old word h at reads flow_is pos has_seen is_timed none_
       due = f.2.due;
       due_labels = f.2.due_labels;
       earlier = record { change = omega arith; count = λ x. absurd (omega arith) };
+      found_earlier = record { change = omega (arith, change_found); count = λ x. absurd (omega (arith, change_found)) };
       seen = λ x _. absurd (differs x.same);
       timed = λ x _. absurd (differs x.same);
       end_found = f.2.end_found;
@@ -406,6 +412,7 @@ loss_raced s seat me h at reads =
       due = f.2.due;
       due_labels = f.2.due_labels;
       earlier = f.2.earlier;
+      found_earlier = earlier_self (slice_index s.words 2) h.0.flow h.1.counts.flow_is;
       seen = f.2.seen;
       timed = f.2.timed;
       end_found = f.2.end_found;
@@ -483,6 +490,7 @@ opens S hdrsize len tags some_words some_tags =
           owed = refl;
           closed = refl;
           flow_is = inl refl;
+          earlier = (earlier_self 0 0 refl, earlier_self 0 0 refl);
           read_words = omega arith;
           read_tags = omega arith;
         },
@@ -497,6 +505,7 @@ opens S hdrsize len tags some_words some_tags =
           due = ([], refl);
           due_labels = ([], refl);
           earlier = earlier_self 0 0 refl;
+          found_earlier = earlier_self 0 0 refl;
           seen = λ _ e. absurd (off e);
           timed = λ _ e. absurd (off e);
           end_found = λ e. absurd (omega arith);

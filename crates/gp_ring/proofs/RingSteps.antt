@@ -15,13 +15,13 @@ use Rattle.gp_ring.specs.Course.{Course, kept_of, words_kept, loss_offer, IsBoun
 use Rattle.gp_ring.specs.kept.Traces.{laid_at}
 use Rattle.gp_ring.specs.kept.Views.{with_read, with_words, with_mark, with_label, with_delivered, owed_of, with_paid, with_overflow, with_since, with_lost, with_exchange, with_raced, with_owed, with_closed}
 use Rattle.gp_ring.specs.kept.Views.{IsWithin, IsLifted, IsCounted, loaded_read, stored_word, stored_mark, stored_label, stored_delivered, stored_paid, loaded_overflow, stored_since, stored_lost, exchanged_flush, exchanged_bump, stored_end}
-use Rattle.gp_ring.specs.kept.RingRule.{Desk, Past, AreWords, AreNumbers, IsQuiet, IsWriterIn, IsSizedAs, AllFit, IsRing, words_pulled}
+use Rattle.gp_ring.specs.kept.RingRule.{Desk, Past, AreWords, AreNumbers, IsQuiet, IsWriterIn, IsEarlier, IsSizedAs, AllFit, IsRing, words_pulled}
 use Rattle.gp_ring.specs.declared.between.view.View.{View}
 use Rattle.gp_ring.specs.declared.between.view.WriterView.{WriterView}
 use Rattle.gp_ring.proofs.Tracing.{behind-front}
 use Rattle.gp_ring.proofs.CourseLaws.{delivered-sound, since-sound, first-lost-sound, one-lost-sound, owing-sound, paid-sound, end-sound}
 use Rattle.gp_ring.proofs.RingWords.{store-word, store-label, store-written, store-flow, store-since, store-end}
-use Rattle.gp_ring.proofs.RingViews.{off, writer_goes, reader-more, reader-since, reader-end, reader-flow, IsLater}
+use Rattle.gp_ring.proofs.RingViews.{off, writer_goes, reader-more, reader-since, reader-end, reader-flow, IsLater, later_earlier, earlier_self}
 
 -- ---- what the writer knows of overflow
 
@@ -83,6 +83,7 @@ loads_read slots seat me st writes s h count at bits =
       owed = f.2.owed;
       closed = f.2.closed;
       flow_is = f.2.flow_is;
+      earlier = f.2.earlier;
       read_words = omega (arith, h.1.counts.read_words);
       read_tags = omega (arith, h.1.counts.read_tags);
     } in
@@ -114,6 +115,7 @@ stored_next past views seat v word up fit at writes =
       owed = f.owed;
       closed = f.closed;
       flow_is = f.flow_is;
+      earlier = f.earlier;
       read_words = f.read_words;
       read_tags = f.read_tags;
     } in
@@ -190,6 +192,7 @@ stores_label slots seat len place me tag st writes quiet is_open len_is place_is
       owed = f.2.owed;
       closed = f.2.closed;
       flow_is = f.2.flow_is;
+      earlier = f.2.earlier;
       read_words = f.2.read_words;
       read_tags = f.2.read_tags;
     } in (
@@ -227,6 +230,7 @@ published past views seat v o offers owed fit at writes quiet is_open =
       owed = refl;
       closed = f.closed;
       flow_is = f.flow_is;
+      earlier = f.earlier;
       read_words = f.read_words;
       read_tags = f.read_tags;
     } in
@@ -331,6 +335,7 @@ loads_overflow slots seat me st writes s h count at bits =
       owed = f.2.owed;
       closed = f.2.closed;
       flow_is = inl (sym h.1.counts.flow_is);
+      earlier = (earlier_self (slice_index s.words 2) h.0.flow h.1.counts.flow_is, f.2.earlier.1);
       read_words = f.2.read_words;
       read_tags = f.2.read_tags;
     } in
@@ -364,6 +369,7 @@ stores_since slots seat me now st writes quiet is_open none_owed s h count at bi
       owed = f.2.owed;
       closed = f.2.closed;
       flow_is = f.2.flow_is;
+      earlier = f.2.earlier;
       read_words = f.2.read_words;
       read_tags = f.2.read_tags;
     } in
@@ -373,10 +379,10 @@ stores_since slots seat me now st writes quiet is_open none_owed s h count at bi
 
 -- all views, when overflow becomes a later word
 flowed : (past : Past) (views : List View) (seat : ℕ) (v : View) (word : ℕ) (offers : List Offer) (pending change owed exchanges found : ℕ) → AllFit past views → get_elem? views seat ≡ some v → v.writes ≡ true
-    → v.writer.closed ≡ false → IsLater past.flow word
+    → v.writer.closed ≡ false → IsLater past.flow word → IsEarlier found past.flow
     → AllFit (record past { course = record past.course { offers = offers; pending = pending; change = change; owed = owed }; flow = word })
     (slice_set views seat (record v { writer = record v.writer { offers = offers; flow = word; owed = owed; exchanges = exchanges; found = found } }))
-flowed past views seat v word offers pending change owed exchanges found fit at writes is_open later =
+flowed past views seat v word offers pending change owed exchanges found fit at writes is_open later before =
     let f = ((fit seat v at).writer writes).2 in
     let new : IsWriterIn (record past.course { offers = offers; pending = pending; change = change; owed = owed }) past.desk word
     (record v.writer { offers = offers; flow = word; owed = owed; exchanges = exchanges; found = found }) = record {
@@ -390,6 +396,7 @@ flowed past views seat v word offers pending change owed exchanges found fit at 
       owed = refl;
       closed = f.closed;
       flow_is = inl refl;
+      earlier = (later_earlier v.writer.overflow past.flow word f.earlier.0 later, later_earlier found past.flow word before later);
       read_words = f.read_words;
       read_tags = f.read_tags;
     } in
@@ -423,7 +430,7 @@ stores_lost slots seat me word o st writes quiet is_open none_owed draft label f
     subst (λ (x : List Offer × ℕ). AllFit (record h.0 { course = first_lost h.0.course o; flow = word })
     (slice_set s.views seat (record me.0 { writer = record me.0.writer { offers = x.0; flow = word; owed = x.1 } })))
     (λ i. (sym f.2.offers i ++ o ∷ [], sym f.2.owed i))
-    (flowed h.0 s.views seat me.0 word (h.0.course.offers ++ o ∷ []) 1 (h.0.course.change + 1) h.0.course.owed me.0.writer.exchanges me.0.writer.found h.3 at writes is_open later) in (
+    (flowed h.0 s.views seat me.0 word (h.0.course.offers ++ o ∷ []) 1 (h.0.course.change + 1) h.0.course.owed me.0.writer.exchanges me.0.writer.found h.3 at writes is_open later f.2.earlier.1) in (
       with_lost me.0 o word,
       keeps,
       tt,
@@ -467,6 +474,7 @@ raced past ws views seat v a fit at writes =
       owed = f.owed;
       closed = f.closed;
       flow_is = inl (sym a.counts.flow_is);
+      earlier = (f.earlier.0, earlier_self (slice_index ws 2) past.flow a.counts.flow_is);
       read_words = f.read_words;
       read_tags = f.read_tags;
     } in
@@ -504,7 +512,7 @@ flush_won s slots seat me old word h at writes is_open draft label flow_is pos n
     subst (λ (x : List Offer × ℕ). AllFit (record h.0 { course = owing h.0.course; flow = word })
     (slice_set s.views seat (record me.0 { writer = record me.0.writer { offers = x.0; flow = word; owed = x.1; exchanges = me.0.writer.exchanges + 1; found = slice_index s.words 2 } })))
     (λ i. (sym f.2.offers i, owed i))
-    (flowed h.0 s.views seat me.0 word h.0.course.offers 0 (h.0.course.change + 1) h.0.course.pending (me.0.writer.exchanges + 1) (slice_index s.words 2) h.3 at writes is_open later) in (
+    (flowed h.0 s.views seat me.0 word h.0.course.offers 0 (h.0.course.change + 1) h.0.course.pending (me.0.writer.exchanges + 1) (slice_index s.words 2) h.3 at writes is_open later (earlier_self (slice_index s.words 2) h.0.flow h.1.counts.flow_is)) in (
       with_exchange (with_owed me.0 word) (slice_index s.words 2),
       keeps,
       tt,
@@ -555,7 +563,7 @@ bump_won s slots seat me old word o h at writes is_open few pos more same e =
     subst (λ (x : List Offer × ℕ). AllFit (record h.0 { course = one_lost h.0.course o; flow = word })
     (slice_set s.views seat (record me.0 { writer = record me.0.writer { offers = x.0; flow = word; owed = x.1; exchanges = me.0.writer.exchanges + 1; found = slice_index s.words 2 } })))
     (λ i. (sym f.2.offers i ++ o ∷ [], sym f.2.owed i))
-    (flowed h.0 s.views seat me.0 word (h.0.course.offers ++ o ∷ []) (h.0.course.pending + 1) h.0.course.change h.0.course.owed (me.0.writer.exchanges + 1) (slice_index s.words 2) h.3 at writes is_open later) in (
+    (flowed h.0 s.views seat me.0 word (h.0.course.offers ++ o ∷ []) (h.0.course.pending + 1) h.0.course.change h.0.course.owed (me.0.writer.exchanges + 1) (slice_index s.words 2) h.3 at writes is_open later (earlier_self (slice_index s.words 2) h.0.flow h.1.counts.flow_is)) in (
       with_exchange (with_lost me.0 o word) (slice_index s.words 2),
       keeps,
       tt,
@@ -599,6 +607,7 @@ stores_end slots seat me st writes none_owed draft label s h count at bits =
       owed = f.2.owed;
       closed = refl;
       flow_is = f.2.flow_is;
+      earlier = f.2.earlier;
       read_words = f.2.read_words;
       read_tags = f.2.read_tags;
     } in

@@ -98,6 +98,7 @@ reader-more course flow o offers owed r quiet is_open f = record {
   due = f.due;
   due_labels = f.due_labels;
   earlier = f.earlier;
+  found_earlier = f.found_earlier;
   seen = λ s _. absurd (none_stands flow r.overflow quiet s);
   timed = λ s _. absurd (none_stands flow r.overflow quiet s);
   end_found = f.end_found;
@@ -115,6 +116,7 @@ reader-since course flow now r quiet f = record {
   due = f.due;
   due_labels = f.due_labels;
   earlier = f.earlier;
+  found_earlier = f.found_earlier;
   seen = f.seen;
   timed = λ s _. absurd (none_stands flow r.overflow quiet s);
   end_found = f.end_found;
@@ -132,6 +134,7 @@ reader-end course flow r f = record {
   due = f.due;
   due_labels = f.due_labels;
   earlier = f.earlier;
+  found_earlier = f.found_earlier;
   seen = f.seen;
   timed = f.timed;
   end_found = λ _. refl;
@@ -140,12 +143,15 @@ reader-end course flow r f = record {
   over = λ e. (let o = f.over e in (refl, o.1, o.2));
 }
 
+pub earlier_self : (a b : ℕ) → a ≡ b → IsEarlier a b
+earlier_self a b e = let c : change_of a ≡ change_of b = ap change_of e in let d : count_of a ≡ count_of b = ap count_of e in record { change = omega arith; count = λ _. omega arith }
+
 -- a later overflow word
 pub record IsLater (before now : ℕ) : Type 0 where
   pub change : change_of before ≤ change_of now
   pub count : change_of before ≡ change_of now → count_of before < count_of now
 
-later_earlier : (seen flow now : ℕ) → IsEarlier seen flow → IsLater flow now → IsEarlier seen now
+pub later_earlier : (seen flow now : ℕ) → IsEarlier seen flow → IsLater flow now → IsEarlier seen now
 later_earlier seen flow now e l = let a = e.change in let b = l.change in record {
   change = omega arith;
   count = λ s. (let x : change_of seen ≡ change_of flow = omega arith in let y : change_of flow ≡ change_of now = omega arith in let p = e.count x in let q = l.count y in omega arith);
@@ -175,6 +181,7 @@ reader-flow course flow now offers pending change owed r is_open later f =
       due = f.due;
       due_labels = f.due_labels;
       earlier = later_earlier r.overflow flow now f.earlier later;
+      found_earlier = later_earlier r.found flow now f.found_earlier later;
       seen = λ s _. absurd (differs s.same);
       timed = λ s _. absurd (differs s.same);
       end_found = f.end_found;
@@ -204,6 +211,7 @@ writer-batch course desk flow ahead rest taken w e f =
       owed = f.owed;
       closed = f.closed;
       flow_is = f.flow_is;
+      earlier = f.earlier;
       read_words = omega arith;
       read_tags = omega arith;
     }
@@ -226,6 +234,7 @@ writer-lifted course desk flow now taken pending change w pos none next f = reco
       (λ (e : flow ≡ w.flow). inr (subst (λ (k : ℕ). 0 < count_of k) e pos, none, next ∙ ap (λ (k : ℕ). change_of k + 1) e))
       (λ (l : IsLifted w.flow flow). (let z : count_of flow ≡ 0 = l.1 in absurd (omega arith)))
       f.flow_is;
+  earlier = (let l : IsLater flow now = record { change = omega arith; count = λ x. absurd (omega arith) } in (later_earlier w.overflow flow now f.earlier.0 l, later_earlier w.found flow now f.earlier.1 l));
   read_words = f.read_words;
   read_tags = f.read_tags;
 }

@@ -34,6 +34,25 @@ bodies_are_sampled program state it = refl
 pub sample_is : (program : Parts) (state : State) (it : Goroutine) (place : Progress) → place ≡ standing it → sample_at program state.clock place ≡ sample_of (code_of program) state it
 sample_is program state it place stands = ap (sample_at program state.clock) stands ∙ bodies_are_sampled program state it
 
+-- The sample of a goroutine fits behind those of a journal that has room for an entry.
+pub record Fits (program : Parts) (settings : Settings) (offers : List Offer) (offer : Offer) : Type 0 where
+  pub offer_fits : IsOffer 1 (ring_len program settings) offer
+  pub few : length offers < 2 ^ 30
+  pub words : 2 * words_for_most 1 (offers ++ offer ∷ []) < 2 ^ 32
+
+pub samples_fit : (program : Parts) (settings : Settings) → AreInRange settings → (journal : List Entry) (g : ℕ) → length journal < most_entries settings →
+    let now = last (code_of program) settings journal in Fits program settings (samples_of_journal (code_of program) settings journal) (sample_of (code_of program) now (goroutine now g))
+samples_fit program settings range journal g fits =
+    let code = code_of program in
+    let now = last code settings journal in
+    let offer = sample_of code now (goroutine now g) in
+    let bound = entries_few settings range in
+    let grown_words : words_for_most 1 (samples_of_journal code settings journal ++ offer ∷ []) ≤ 67 * length (journal ++ Tick 0 g ∷ []) + 4 =
+    subst (λ l. words_for_most 1 l ≤ 67 * length (journal ++ Tick 0 g ∷ []) + 4) (samples_grow code settings journal (Tick 0 g)) (samples_words program settings (journal ++ Tick 0 g ∷ [])) in
+    let longer : length (journal ++ Tick 0 g ∷ []) ≡ length journal + 1 = length-append journal (Tick 0 g ∷ []) in
+    let number = samples_number program settings journal in
+    record { offer_fits = sample_fits program settings now (goroutine now g) range; few = omega arith; words = omega arith }
+
 -- ---- the ring is kept
 
 -- whatever is offered and taken
@@ -129,22 +148,16 @@ module _ (program : Parts) (settings : Settings) (range : AreInRange settings) w
     -- A sample may be offered where its entry has room,
     pub sample_offerable : (g : ℕ) → length journal < most_entries settings → IsOfferable ring (sample_of (code_of program) now (goroutine now g))
     sample_offerable g fits =
-        let code = code_of program in
-        let offer = sample_of code now (goroutine now g) in
-        let bound = entries_few settings range in
-        let grown_words : words_for_most 1 (samples_of_journal code settings journal ++ offer ∷ []) ≤ 67 * length (journal ++ Tick 0 g ∷ []) + 4 =
-        subst (λ l. words_for_most 1 l ≤ 67 * length (journal ++ Tick 0 g ∷ []) + 4) (samples_grow code settings journal (Tick 0 g)) (samples_words program settings (journal ++ Tick 0 g ∷ [])) in
-        let longer : length (journal ++ Tick 0 g ∷ []) ≡ length journal + 1 = length-append journal (Tick 0 g ∷ []) in
-        let bounded : 2 * words_for_most 1 (samples_of_journal code settings journal ++ offer ∷ []) < 2 ^ 32 = omega arith in
-        let number = samples_number program settings journal in (
-          samples_of_journal code settings journal,
+        let offer = sample_of (code_of program) now (goroutine now g) in
+        let room = samples_fit program settings range journal g fits in (
+          samples_so_far journal,
           records,
           keeps.follows,
           record {
             open_ring = keeps.is_open;
-            offer_fits = subst (λ h. IsOffer h ring.len offer) (sym keeps.header) (subst (λ l. IsOffer 1 l offer) (sym keeps.words) (sample_fits program settings now (goroutine now g) range));
-            few = omega arith;
-            words = subst (λ h. 2 * words_for_most h (samples_of_journal code settings journal ++ offer ∷ []) < 2 ^ 32) (sym keeps.header) bounded;
+            offer_fits = subst (λ h. IsOffer h ring.len offer) (sym keeps.header) (subst (λ l. IsOffer 1 l offer) (sym keeps.words) room.offer_fits);
+            few = room.few;
+            words = subst (λ h. 2 * words_for_most h (samples_so_far journal ++ offer ∷ []) < 2 ^ 32) (sym keeps.header) room.words;
           },
         )
 

@@ -3,3 +3,4 @@ pub mod Frames
 pub mod ReadOut
 pub mod Offers
 pub mod Keeping
+pub mod BothEnds

@@ -95,15 +95,21 @@ sample_fits program settings s it range = record {
 }
 
 -- the ring of a run as it is made, and the first offer
+pub made_len : (program : Parts) (settings : Settings) → AreInRange settings → (words len : ℕ) → words ≡ ring_words program settings → IsNextPowerOfTwo (max words (loss_size 1)) len → len ≡ ring_len program settings
+made_len program settings range words len asked has_words =
+    let some = range.some_ring in
+    let few = asked_few program settings range in
+    let most : max words (loss_size 1) ≡ ring_words program settings = omega arith in
+    is_rounded (ring_words program settings) len (omega arith) (subst (λ n. IsNextPowerOfTwo n len) most has_words)
+
+pub made_tags : (settings : Settings) → AreInRange settings → (tags : ℕ) → IsNextPowerOfTwo settings.tags tags → tags ≡ ring_tags settings
+made_tags settings range tags has_tags = let few_tags = range.tags in is_rounded settings.tags tags (omega arith) has_tags
+
 pub begun_sizes : (program : Parts) (settings : Settings) → AreInRange settings → (words : ℕ) (ring : PlainRing) → words ≡ ring_words program settings → ring ≡ empty_ring 1 ring.len ring.tags →
     IsNextPowerOfTwo (max words (loss_size 1)) ring.len → IsNextPowerOfTwo settings.tags ring.tags → ring ≡ empty_ring 1 (ring_len program settings) (ring_tags settings)
 begun_sizes program settings range words ring asked is_empty has_words has_tags =
-    let some = range.some_ring in
-    let few_tags = range.tags in
-    let few = asked_few program settings range in
-    let most : max words (loss_size 1) ≡ ring_words program settings = omega arith in
-    let len : ring.len ≡ ring_len program settings = is_rounded (ring_words program settings) ring.len (omega arith) (subst (λ n. IsNextPowerOfTwo n ring.len) most has_words) in
-    let tags : ring.tags ≡ ring_tags settings = is_rounded settings.tags ring.tags (omega arith) has_tags in
+    let len = made_len program settings range words ring.len asked has_words in
+    let tags = made_tags settings range ring.tags has_tags in
     is_empty ∙ (λ i. empty_ring 1 (len i) (tags i))
 
 pub rate_offerable : (program : Parts) (settings : Settings) → AreInRange settings → IsOfferable (empty_ring 1 (ring_len program settings) (ring_tags settings)) (rate_record settings)

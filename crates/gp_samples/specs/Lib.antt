@@ -1,2 +1,4 @@
 pub mod RunRing
 pub mod RunRingLaw
+pub mod RunEnds
+pub mod RunEndsLaw

@@ -31,15 +31,26 @@
 //! keeps the empty journal, each entry and each read leave a ring that keeps what there is then, and once it is closed and
 //! read to its end the records alone cover the samples, and begin with their head.
 //!
-//! Only `begun_ring`, for the ring, and `read`, for the records, take memory.
+//! **Between two threads** (`begun_ends`, `write_sample`, `take`) the ring has two ends. The offers that the writer made are always
+//! the samples of the journal (`AreOffers` in `specs/RunEnds.antt`), and the records are those that the reader took (`AddsTaken`).
+//! What each of the two knows of the other is told at the end alone: once the reader has taken in the writer, its records cover the
+//! samples of the journal and begin with their head (`law_run_ends`).
+//!
+//! Only `begun_ring` and `begun_ends`, for the ring, and `read` and `take`, for the records, take memory.
 #![tactic(auto)]
 
+mod ends;
 mod laws;
 mod reading;
 mod ring;
 mod sample;
+mod taking;
+mod took;
 
-pub use laws::law_run_ring;
+pub use ends::begun_ends;
+pub use laws::{law_run_ends, law_run_ring};
 pub use reading::{read, read_to_end};
 pub use ring::begun_ring;
-pub use sample::offer_sample;
+pub use sample::{offer_sample, write_sample};
+pub use taking::take;
+pub use took::Took;

@@ -9,10 +9,10 @@ use gp_ring::Ring;
 use std::alloc::Global;
 
 // How many header words the record of a sample has.
-const HEADER_WORDS: u32 = 1;
+pub(crate) const HEADER_WORDS: u32 = 1;
 
 // The words that the ring of a run is to have.
-fn ring_words(program: &Program, settings: &Settings) -> u32
+pub(crate) fn ring_words(program: &Program, settings: &Settings) -> u32
     requires { settings.now.ring ≤ limit.most_ring_words }
     ensures words { result ≡ ring_words program.now settings.now }
     ensures few { result ≤ limit.most_ring_words }

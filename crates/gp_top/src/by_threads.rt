@@ -31,6 +31,7 @@ fn run_named<R: Run + Send + Sync, T: Threads + Wait + Sync, G: Gate>(
         cpu,
         done,
         made,
+        ..
     } = run_all::<R, T, G>(rt, alloc, program, settings, gate)?;
     let complete = Complete {
         machine,

@@ -13,14 +13,9 @@ use Rattle.gp_journal.specs.Bodies.{AreBodiesOf}
 use Rattle.gp_journal.specs.Settings.{AreInRange}
 use Rattle.gp_journal.specs.State.{code_of, first}
 use Rattle.gp_journal.proofs.Lemmas.{first_bodies}
-use Rattle.gp_ring.specs.Records.{RingRecord}
-use Rattle.gp_samples.specs.RunRing.{KeepsRing}
-use Rattle.gp_samples.proofs.Keeping.{begun_keeps}
 use Rattle.gp_tally.specs.Rows.{Part}
 use Rattle.gp_world.specs.Rows.{blank, share_of, shares_of}
-use Rattle.gp_world.specs.Scene.{Scene}
-use Rattle.gp_workers.specs.Beginning.{IsBegun}
-use Rattle.gp_workers.specs.kept.Locked.{Fit, Reads, IsRead}
+use Rattle.gp_workers.specs.kept.Locked.{Fit}
 use Rattle.gp_workers.specs.Actors.{Actor, numbers_of, AreActors}
 use Rattle.gp_workers.proofs.InOrder.{Splits, all_taken, range_more}
 
@@ -33,18 +28,6 @@ begun_fit program settings room main bodies body alone range is_main stands plac
       (subst (λ n. AreBodiesOf (first (code_of program) settings) (record { start = n; set = 0; count = 0 } ∷ [])) (ap (λ o. unwrap_or o 0) is_main) (first_bodies (code_of program) settings));
   has_room = fits;
 })
-
-keeps_read : (program : Parts) (settings : Settings) (world : Scene) → KeepsRing program settings [] [] world.ring → world.journal ≡ [] → IsRead program settings world []
-keeps_read program settings world keeps empty = record {
-  closes = λ ended. absurd (true≢false (sym ended ∙ keeps.is_open));
-  reads = λ not_failed. subst (λ j. Reads program settings j world.ring []) (sym empty)
-      (record { header = keeps.header; words = keeps.words; tags = keeps.tags; follows = keeps.follows; whole = keeps.whole });
-}
-
-pub begun_read : (book : TableId) (program : Parts) (settings : Settings) (world : Scene) (records : List RingRecord) → AreInRange settings → IsBegun book program settings world → records ≡ [] → IsRead program settings world records
-begun_read book program settings world records range begun none =
-    subst (IsRead program settings world) (sym none)
-    (keeps_read program settings world (subst (KeepsRing program settings [] []) (sym begun.its_ring) (begun_keeps program settings range)) begun.empty)
 
 -- ---- the shares that are issued, and the actors
 

@@ -26,16 +26,14 @@ use Rattle.gp_journal.specs.State.{Code, State, code_of, goroutine, nobody, is_l
 use Rattle.gp_journal.specs.StepLaws.{joining}
 use Rattle.gp_journal.proofs.Lemmas.{is_whole, holds_runnable, live_status, step_queue, times_push, one_at, changed, stays, follows_run, follows_op, Moved, op_bears, run_ahead, live_within}
 use Rattle.gp_journal.proofs.Following.{newborn_place}
-use Rattle.gp_ring.specs.PlainRing.{PlainRing}
-use Rattle.gp_cpu.specs.Samples.{sampled_at}
-use Rattle.gp_samples.specs.RunRing.{with_offers}
+use Rattle.gp_world.specs.declared.ring_end.RingEnd.{RingEnd}
 use Rattle.gp_world.specs.declared.step.Step.{Step}
 use Rattle.gp_world.specs.declared.step.Step.TheVariants as step
 use Rattle.gp_world.specs.Calls.{IsStep, HasPassed, moved_by}
 use Rattle.gp_world.specs.Scene.{Scene}
 use Rattle.gp_workers.specs.kept.Following.{CanFollow, places_behind}
-use Rattle.gp_workers.specs.kept.Locked.{Fit, Keeps}
-use Rattle.gp_workers.proofs.Keeping.{state_is, read_on}
+use Rattle.gp_workers.specs.kept.Locked.{Fit}
+use Rattle.gp_workers.proofs.Keeping.{state_is}
 
 -- The bodies after a Run that ended g's trace: that of g may stand where it stood.
 ran_out : (code : Code) (settings : Settings) (s : State) (w g n : ℕ) (bodies : List Progress) → is_over_after code n (goroutine s g) ≡ true → AreBodiesOf s bodies → AreBodiesOf (after code settings s (Run w g n)) bodies
@@ -127,11 +125,11 @@ module _ (program : Parts) (settings : Settings) (s : State) (w g : ℕ) (bodies
 
   -- ---- any step
 
-  module _ (range : AreInRange settings) (ring : PlainRing) (may : May code settings s made) (reached_next : IsReached code settings (after code settings s made)) where
+  module _ (range : AreInRange settings) (ring ring_next : RingEnd) (may : May code settings s made) (reached_next : IsReached code settings (after code settings s made)) where
     may_op : made ≡ Op w g → May code settings s (Op w g)
     may_op is = subst (May code settings s) is may
 
-    pub follows : (it : Step) → IsStep program settings s ring w g it → Behind it made
+    pub follows : (it : Step) → IsStep program settings s ring ring_next w g it → Behind it made
     follows (step.Advance n) is =
         subst (Behind (step.Advance n)) (sym is.0)
         (subst (λ (ps : List Progress). AreBodiesOf (after code settings s (Run w g n)) (moved_on ps g n)) (sym unmoved) (follows_run code settings s w g n bodies are))
@@ -154,7 +152,7 @@ module _ (program : Parts) (settings : Settings) (s : State) (w g : ℕ) (bodies
     follows (step.Faulted cause) is = op_stood (step.Faulted cause) (answer.Fault cause) (λ places. refl) is.0 is.1 refl (operated (may_op is.0) (answer.Fault cause) is.1)
 
     -- What it tells can be done with the bodies.
-    pub can_follow : (room : ℕ) → settings.cells ≤ room → (it : Step) → IsStep program settings s ring w g it → CanFollow program g room (places_at made) it
+    pub can_follow : (room : ℕ) → settings.cells ≤ room → (it : Step) → IsStep program settings s ring ring_next w g it → CanFollow program g room (places_at made) it
     can_follow room fits (step.Advance n) is =
         let due_run = subst (May code settings s) is.0 may in
         subst (λ e. n ≤ ahead_at program (get_or (places_at e) g nowhere)) (sym is.0)
@@ -198,7 +196,7 @@ lent_back bodies g body back was same = ap (set bodies g) (same ∙ was) ∙ set
 
 module _ (program : Parts) (settings : Settings) (old new : Scene) (w b g room : ℕ) (its : b ≡ g) (bodies : List Body) (body back : Body) (it : Step) (fit : Fit program settings old.journal room bodies)
     (legal : IsLegal (code_of program) settings old.journal) (legal_next : IsLegal (code_of program) settings new.journal) (live : is_live (goroutine (state_of program settings old.journal) g) ≡ true)
-    (was : body ≡ get_or bodies g body) (is_b : IsStep program settings (state_of program settings old.journal) old.ring w b it)
+    (was : body ≡ get_or bodies g body) (is_b : IsStep program settings (state_of program settings old.journal) old.ring new.ring w b it)
     (grown_b : new.journal ≡ old.journal ++ due (code_of program) settings (state_of program settings old.journal) w b ∷ [])
     (moved_b : progress_of back ≡ moved_by (applied (code_of program) settings (state_of program settings old.journal) (due (code_of program) settings (state_of program settings old.journal) w b)) (progress_of body)) where
   abbrev now : State
@@ -207,8 +205,8 @@ module _ (program : Parts) (settings : Settings) (old new : Scene) (w b g room :
   abbrev entry : Entry
   entry = due (code_of program) settings now w g
 
-  is : IsStep program settings now old.ring w g it
-  is = subst (λ n. IsStep program settings now old.ring w n it) its is_b
+  is : IsStep program settings now old.ring new.ring w g it
+  is = subst (λ n. IsStep program settings now old.ring new.ring w n it) its is_b
 
   grown : new.journal ≡ old.journal ++ entry ∷ []
   grown = grown_b ∙ ap (λ n. old.journal ++ due (code_of program) settings now w n ∷ []) its
@@ -238,7 +236,7 @@ module _ (program : Parts) (settings : Settings) (old new : Scene) (w b g room :
       (moved ∙ ap (moved_by (applied (code_of program) settings now entry)) (ap progress_of was ∙ sym (get_or-map progress_of bodies g body nowhere (body_there program settings old.journal room g bodies fit live))))
 
   pub able : CanFollow program g room (progress_each (set bodies g back)) it
-  able = subst (λ (ps : List Progress). CanFollow program g room ps it) (sym placed) (can_follow program settings now w g (progress_each bodies) here fit.its_bodies fit.in_range old.ring due_may there room fit.has_room it is)
+  able = subst (λ (ps : List Progress). CanFollow program g room ps it) (sym placed) (can_follow program settings now w g (progress_each bodies) here fit.its_bodies fit.in_range old.ring new.ring due_may there room fit.has_room it is)
 
   pub still_fit : (bodies' : List Body) (room' : ℕ) → AllStand program bodies' → progress_each bodies' ≡ places_behind g it (progress_each (set bodies g back)) → room' ≡ room → Fit program settings new.journal room' bodies'
   still_fit bodies' room' stand places same = record {
@@ -248,13 +246,6 @@ module _ (program : Parts) (settings : Settings) (old new : Scene) (w b g room :
         subst (λ (ps : List Progress). AreBodiesOf (state_of program settings new.journal) ps) (sym (places ∙ ap (places_behind g it) placed))
         (subst (λ s. AreBodiesOf s (places_behind g it (places_at program settings now w g (progress_each bodies) here fit.its_bodies entry)))
         (sym (ap (last (code_of program) settings) grown ∙ next_is))
-        (follows program settings now w g (progress_each bodies) here fit.its_bodies fit.in_range old.ring due_may there it is));
+        (follows program settings now w g (progress_each bodies) here fit.its_bodies fit.in_range old.ring new.ring due_may there it is));
     has_room = subst (λ n. settings.cells ≤ n) (sym same) fit.has_room;
-  }
-
-  pub keeps : new.book ≡ old.book → new.ring ≡ with_offers old.ring (sampled_at (code_of program) now (due (code_of program) settings now w b)) → new.failed ≡ old.failed → Keeps program settings old new
-  keeps book ring failed = record {
-    same_book = book;
-    still_read =
-        read_on program settings fit.in_range old new entry longer grown (ring ∙ ap (λ n. with_offers old.ring (sampled_at (code_of program) now (due (code_of program) settings now w n))) its) failed;
   }

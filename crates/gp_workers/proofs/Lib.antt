@@ -1,9 +1,10 @@
 mod Keeping
 mod Following
 mod ProfilerKeeps
-mod RingKeeps
 mod Counts
 mod InOrder
+mod Taking
+mod Parting
 mod Beginnings
 mod Turns
 mod Idling

@@ -6,16 +6,11 @@ use Rattle.atomic_table.specs.Seated.{TableId}
 use Rattle.gp_isa.specs.declared.parts.Parts.{Parts}
 use Rattle.gp_journal.specs.declared.entry.Entry.{Entry}
 use Rattle.gp_journal.specs.declared.settings.Settings.{Settings}
-use Rattle.gp_journal.specs.Due.{IsComplete}
 use Rattle.gp_journal.specs.Run.{IsLegal, state_of}
 use Rattle.gp_journal.specs.Settings.{AreInRange}
 use Rattle.gp_journal.specs.Standing.{first_behind}
 use Rattle.gp_journal.specs.State.{State, code_of, goroutine, nobody, is_behind, is_live}
 use Rattle.gp_journal.proofs.Lemmas.{behind_parts}
-use Rattle.gp_ring.specs.PlainRing.{closed}
-use Rattle.gp_ring.specs.Records.{RingRecord}
-use Rattle.gp_ring.proofs.Reading.{close-follows}
-use Rattle.gp_cpu.specs.Samples.{samples_of_journal}
 use Rattle.gp_tally.specs.Rows.{Part}
 use Rattle.gp_tally.specs.declared.row.Row.{Row}
 use Rattle.gp_world.specs.Rows.{profiler_row, has_finished}
@@ -27,8 +22,8 @@ use Rattle.gp_profiler.specs.declared.answers.Recording.TheVariants.{Recorded, A
 use Rattle.gp_profiler.specs.declared.answers.Closing.{Closing}
 use Rattle.gp_profiler.specs.declared.answers.Closing.TheVariants.{Closed, Missing}
 use Rattle.gp_profiler.specs.Calls.{with_entry, share_with, opening_entry, recording_entry, closing_entry}
-use Rattle.gp_workers.specs.kept.Locked.{IsRead, Keeps, Leaves, IsProfiler}
-use Rattle.gp_workers.proofs.Keeping.{is_still, leaves_all, leaves_same}
+use Rattle.gp_workers.specs.kept.Locked.{Leaves, IsProfiler}
+use Rattle.gp_workers.proofs.Keeping.{is_still, keeps_same, leaves_all, leaves_same}
 
 abbrev pub IsStill : Option Entry → Type 0
 IsStill made = IfSome made (λ entry. is_still entry ≡ true)
@@ -51,7 +46,7 @@ pub entered_leaves : (program : Parts) (settings : Settings) → AreInRange sett
 entered_leaves program settings range old new None still is legal = subst (Leaves program settings old) (sym is) (leaves_same program settings range old)
 entered_leaves program settings range old new (Some entry) still is legal =
     leaves_all program settings range (entry ∷ []) old new (still, tt) (subst (IsLegal (code_of program) settings) (ap (λ (s : Scene). s.journal) is) legal)
-    (record { same_book = ap (λ (s : Scene). s.book) is; grown = ap (λ (s : Scene). s.journal) is; same_ring = ap (λ (s : Scene). s.ring) is; same_failed = ap (λ (s : Scene). s.failed) is })
+    (record { keeps = keeps_same old new (ap (λ (s : Scene). s.book) is) (ap (λ (s : Scene). s.ring) is); grown = ap (λ (s : Scene). s.journal) is })
 
 -- Who has still to be recorded is live.
 pub found_lives : (s : State) (g : ℕ) → first_behind s.active s.goroutines ≡ Some g → is_live (goroutine s g) ≡ true
@@ -76,20 +71,3 @@ pub noted_busy : (book next_book : TableId) (settings : Settings) (share : Part)
 noted_busy book next_book settings share None row same it few low = record { profiler = subst (λ b. IsProfiler b settings share) (sym same) it; unfinished = few }
 noted_busy book next_book settings share (Some entry) row same it few low =
     record { profiler = record { its_book = it.its_book ∙ sym same; number = it.number; told = omega arith }; unfinished = low }
-
--- ---- it finishes
-
-pub closed_keeps : (program : Parts) (settings : Settings) (old new : Scene) → new ≡ record old { ring = closed old.ring } → IsComplete settings (state_of program settings old.journal) → Keeps program settings old new
-closed_keeps program settings old new is complete = subst (Keeps program settings old) (sym is) (record { same_book = refl; still_read = read })
-  where
-    read : (records : List RingRecord) → IsRead program settings old records → IsRead program settings (record old { ring = closed old.ring }) records
-    read records it = record {
-      closes = λ e. complete;
-      reads = λ e. let r = it.reads e in record {
-        header = r.header;
-        words = r.words;
-        tags = r.tags;
-        follows = close-follows (samples_of_journal (code_of program) settings old.journal) records old.ring r.follows;
-        whole = r.whole;
-      };
-    }

@@ -1,6 +1,8 @@
 //! Actors play their turns, on a thread of their own or at home, until they have nothing to do any more.
-ghost use Rattle.std.specs.Prelude.{◌≡◌, ◌≢◌, ◌↔◌, ◌⊎◌, ◌≤◌, IsTrue};
+ghost use Rattle.std.specs.Prelude.{◌≡◌, ◌≢◌, ◌↔◌, ◌⊎◌, IsTrue};
+ghost use Rattle.std.proofs.Props.{props};
 ghost use Rattle.gp_workers.specs.Actors.{HasEnded};
+ghost use mathlib.Core.Sum.{⊎_set};
 ghost use Rattle.gp_workers.specs.declared.turn.Turn.TheVariants as came_to;
 
 use crate::actor::{Actor, Shared};
@@ -20,7 +22,7 @@ use std::thread::Promise;
 pub(crate) struct Player<K: Naming, R: Run> {
     pub(crate) actor: Actor<K, R>,
     pub(crate) last: Turn,
-    ghost told: { last ≡ came_to.Done → actor.number ≤ R.settings.workers → HasEnded R.settings actor },
+    ghost told: { last ≡ came_to.Done → HasEnded R.settings actor } by { Prim.hlevel (props, ⊎_set) },
 }
 
 /// The player who comes back from a thread is the actor of this number.

@@ -126,7 +126,7 @@ fn serve<R: Run>(
     requires active { 0 < (state_of R.program R.settings world.old.journal).active }
     requires fit { Fit R.program R.settings world.old.journal (vec_capacity bodies.old) bodies.old.items }
     ensures fit { Fit R.program R.settings world.new.journal (vec_capacity bodies.new) bodies.new.items }
-    ensures world { Keeps R.program R.settings world.old world.new }
+    ensures world { Keeps world.old world.new }
     ensures profiler { IsProfiler world.new.book R.settings who.new }
     ensures entries { TakesOneTurn world.old.journal world.new.journal }
     ensures went { IfOk result (λ did. did.turn ≡ Turn.Went) }
@@ -153,7 +153,7 @@ fn profile_on<R: Run>(
     requires room { room ≡ R.settings.room }
     requires fit { Fit R.program R.settings world.old.journal (vec_capacity bodies.old) bodies.old.items }
     ensures fit { Fit R.program R.settings world.new.journal (vec_capacity bodies.new) bodies.new.items }
-    ensures world { Keeps R.program R.settings world.old world.new }
+    ensures world { Keeps world.old world.new }
     ensures profiler { IsProfiler world.new.book R.settings who.new }
     ensures entries { TakesOneTurn world.old.journal world.new.journal }
     ensures done { IfOk result (λ did. (did.turn ≡ Turn.Done) ↔ (who.new.row.a ≡ has_finished)) }
@@ -190,7 +190,7 @@ fn profile_counted<R: Run>(
     requires room { room ≡ R.settings.room }
     requires fit { Fit R.program R.settings world.old.journal (vec_capacity bodies.old) bodies.old.items }
     ensures fit { Fit R.program R.settings world.new.journal (vec_capacity bodies.new) bodies.new.items }
-    ensures world { Keeps R.program R.settings world.old world.new }
+    ensures world { Keeps world.old world.new }
     ensures profiler { IsProfiler world.new.book R.settings who.new }
     ensures entries { TakesOneTurn world.old.journal world.new.journal }
     ensures few { who.new.row.c ≤ who.old.row.c + 2 }

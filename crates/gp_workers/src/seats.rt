@@ -141,7 +141,7 @@ fn play_at_home<K: Naming, R: Run, T: Wait, G: Gate>(
 fn ended<K: Naming, R: Run>(player: Player<K, R>) -> Result<Actor<K, R>, Memory>
     requires { (player.last ≡ Turn.Done) ⊎ (player.last ≡ Turn.Memory) }
     ensures number { IfOk result (λ actor. actor.number ≡ player.actor.number) }
-    ensures ended { IfOk result (λ actor. actor.number ≤ R.settings.workers → HasEnded R.settings actor) }
+    ensures ended { IfOk result (HasEnded R.settings) }
 {
     let Player { actor, last, .. } = player;
     if last == Turn::Memory {

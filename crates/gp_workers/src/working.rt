@@ -138,7 +138,7 @@ fn go<R: Run>(
     requires picked { who.old.row.a ≡ has_picked }
     requires fit { Fit R.program R.settings world.old.journal (vec_capacity bodies.old) bodies.old.items }
     ensures fit { Fit R.program R.settings world.new.journal (vec_capacity bodies.new) bodies.new.items }
-    ensures world { Keeps R.program R.settings world.old world.new }
+    ensures world { Keeps world.old world.new }
     ensures worker { IsWorker world.new.book R.settings who.new }
     ensures number { who.new.number ≡ who.old.number }
     ensures entries { TakesOneTurn world.old.journal world.new.journal }
@@ -166,7 +166,7 @@ fn begin<R: Run>(
     requires nothing { who.old.row.a ≡ has_nothing }
     requires fit { Fit R.program R.settings world.old.journal (vec_capacity bodies.old) bodies.old.items }
     ensures fit { Fit R.program R.settings world.new.journal (vec_capacity bodies.new) bodies.new.items }
-    ensures world { Keeps R.program R.settings world.old world.new }
+    ensures world { Keeps world.old world.new }
     ensures worker { IsWorker world.new.book R.settings who.new }
     ensures number { who.new.number ≡ who.old.number }
     ensures entries { TakesOneTurn world.old.journal world.new.journal }
@@ -216,7 +216,7 @@ fn step<R: Run>(
     requires live { is_live (goroutine (state_of R.program R.settings world.old.journal) g) ≡ true }
     requires fit { Fit R.program R.settings world.old.journal (vec_capacity bodies.old) bodies.old.items }
     ensures fit { Fit R.program R.settings world.new.journal (vec_capacity bodies.new) bodies.new.items }
-    ensures world { Keeps R.program R.settings world.old world.new }
+    ensures world { Keeps world.old world.new }
     ensures worker { IsWorker world.new.book R.settings who.new }
     ensures number { who.new.number ≡ who.old.number }
     ensures entries { TakesOneTurn world.old.journal world.new.journal }
@@ -244,7 +244,7 @@ fn go_on<R: Run>(
     requires runs { who.old.row.a ≡ runs_one }
     requires fit { Fit R.program R.settings world.old.journal (vec_capacity bodies.old) bodies.old.items }
     ensures fit { Fit R.program R.settings world.new.journal (vec_capacity bodies.new) bodies.new.items }
-    ensures world { Keeps R.program R.settings world.old world.new }
+    ensures world { Keeps world.old world.new }
     ensures worker { IsWorker world.new.book R.settings who.new }
     ensures number { who.new.number ≡ who.old.number }
     ensures entries { TakesOneTurn world.old.journal world.new.journal }
@@ -268,7 +268,7 @@ fn work_on<R: Run>(
     requires more { who.old.row.a < is_done }
     requires fit { Fit R.program R.settings world.old.journal (vec_capacity bodies.old) bodies.old.items }
     ensures fit { Fit R.program R.settings world.new.journal (vec_capacity bodies.new) bodies.new.items }
-    ensures world { Keeps R.program R.settings world.old world.new }
+    ensures world { Keeps world.old world.new }
     ensures worker { IsWorker world.new.book R.settings who.new }
     ensures number { who.new.number ≡ who.old.number }
     ensures entries { TakesOneTurn world.old.journal world.new.journal }
@@ -299,7 +299,7 @@ fn work_counted<R: Run>(
     requires more { who.old.row.a < is_done }
     requires fit { Fit R.program R.settings world.old.journal (vec_capacity bodies.old) bodies.old.items }
     ensures fit { Fit R.program R.settings world.new.journal (vec_capacity bodies.new) bodies.new.items }
-    ensures world { Keeps R.program R.settings world.old world.new }
+    ensures world { Keeps world.old world.new }
     ensures worker { IsWorker world.new.book R.settings who.new }
     ensures number { who.new.number ≡ who.old.number }
     ensures entries { TakesOneTurn world.old.journal world.new.journal }

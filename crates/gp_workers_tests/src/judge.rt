@@ -6,6 +6,7 @@ use gp_events::Buckets;
 use gp_isa::Program;
 use gp_machine::{Entry, Run, Settings};
 use gp_replay::{Replay, Sum, are_covered, is_profile};
+use gp_ring::Taken;
 use gp_workers::Finished;
 use std::alloc::{AllocError, Global};
 
@@ -49,6 +50,16 @@ fn records_of<R: Run>(run: &Finished<R>) -> (u64, u64) {
     (delivered, lost)
 }
 
+// The records cover the samples of the replay, each delivered or counted lost, and the reader came to the end.
+fn are_samples<R: Run>(run: &Finished<R>, settings: &Settings, replay: &Replay) -> bool {
+    run.reader.shown() == Taken::End
+        && are_covered(
+            run.cpu.records().as_slice(),
+            settings.hz,
+            replay.samples.as_slice(),
+        )
+}
+
 fn are_numbers<R: Run>(run: &Finished<R>, replay: &Replay) -> bool {
     run.done.as_slice() == replay.done.as_slice()
         && run.made.as_slice() == replay.made.as_slice()
@@ -70,11 +81,7 @@ fn agrees<R: Run>(
     Ok(
         are_profiles(run, replay)
             && are_numbers(run, replay)
-            && are_covered(
-                run.cpu.records().as_slice(),
-                settings.hz,
-                replay.samples.as_slice(),
-            )
+            && are_samples(run, settings, replay)
             && are_events(settings.block, block, Sum::of(replay.block.as_slice()))
             && are_events(settings.mutex, mutex, Sum::of(replay.mutex.as_slice()))
             && replay.is_complete(),

@@ -6,12 +6,17 @@
 //! In `held.txt` gates hold a worker until the other one has gone on, and the profiler until workers have gone on while a profile
 //! is open: only where threads really run, and run while a profile is taken, do these gates open. In `read.txt` a gate holds the
 //! worker behind each sample until the reader has taken it: only where the reader reads while the worker runs does it open.
+//!
+//! At last the lock is held while the reader has two turns: a reader that takes the lock, or whose samples stand behind it, doesn't
+//! come back from them.
 #![tactic(auto)]
 
+mod beside;
 mod gates;
 mod judge;
 mod runs;
 
+use crate::beside::beside;
 use crate::gates::How;
 use crate::runs::{Case, walk_case};
 use gp_cases::Unanswered;
@@ -44,5 +49,13 @@ fn walk<T: Threads + Wait + Sync + Files + Print + AllocGlobal>(
 fn main(rt: HostRuntime) -> Result<(), Unanswered> {
     walk(&rt, "runs.txt", How::Free)?;
     walk(&rt, "held.txt", How::Workers)?;
-    walk(&rt, "read.txt", How::Reader)
+    walk(&rt, "read.txt", How::Reader)?;
+    let page = beside(
+        &rt,
+        rt.alloc(),
+        "run a.gp --workers 1 --hz 1000 --ring 16 --tags 4",
+        "func main {;work 20000;};",
+    )?;
+    println!(&rt; "beside the lock:{}", page.as_str())?;
+    Ok(())
 }

@@ -50,7 +50,8 @@ impl<'a> Case<'a> {
     }
 }
 
-fn program_in(alloc: Global, row: &str) -> Result<Program, Unanswered> {
+/// The program of a file that is told in one line.
+pub fn program_in(alloc: Global, row: &str) -> Result<Program, Unanswered> {
     let file = lines(alloc, row)?;
     if file.len() > 65536 {
         return Err(Unanswered::Form);
@@ -66,7 +67,8 @@ fn words_of(alloc: Global, line: &str) -> Result<Vec<String>, Unanswered> {
     Ok(all)
 }
 
-fn settings_of(alloc: Global, line: &str) -> Result<Settings, Unanswered>
+/// The options of a command line that runs a program on threads.
+pub fn settings_of(alloc: Global, line: &str) -> Result<Settings, Unanswered>
     ensures { IfOk result AreInRange }
 {
     let words = words_of(alloc, line)?;

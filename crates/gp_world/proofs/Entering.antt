@@ -1,5 +1,5 @@
 -- A world keeps what it keeps over each kind of entry.
-use Rattle.std.proofs.Common.{◌≡◌, ◌⊎◌, inl, inr, ◌+◌, ◌*◌, ◌^◌, ◌<◌, ◌≤◌, ◌==◌, ℕ, Bool, true, false, List, [], ◌∷◌, ◌++◌, length, get_or, set, Option, Some, None, if◌then◌else◌, refl, sym, ap, ◌∙◌, subst, arith, get_or-set_other, length-set, true≢false}
+use Rattle.std.proofs.Common.{◌≡◌, ◌⊎◌, inl, inr, ◌+◌, ◌*◌, ◌^◌, ◌<◌, ◌≤◌, ℕ, Bool, true, false, List, [], ◌∷◌, ◌++◌, length, get_or, set, Option, Some, None, if◌then◌else◌, refl, sym, ap, ◌∙◌, subst, arith, get_or-set_other, length-set, true≢false}
 use Rattle.std.specs.List.{AllByRecursion}
 use Rattle.std.proofs.lemmas.Bool.{cases_eq}
 use Rattle.std.proofs.lemmas.List.{length_push}
@@ -27,17 +27,18 @@ use Rattle.gp_journal.specs.State.{Code, State, code_of, goroutine, worker, birt
 use Rattle.gp_journal.specs.StepLaws.{LeavesEpochs, SameEpochs, remaining, joining}
 use Rattle.gp_journal.proofs.Lemmas.{IsWhole, step_epochs, step_queue, nothing_may, runnable_once, is_kept, born_cell, runnable_born, holds_runnable, appended, acts_told, times-cons, one_at, entries_are_bounded, clock_fits}
 use Rattle.gp_machine.specs.Queue.{Line}
-use Rattle.gp_ring.specs.Follows.{IsOfferable}
-use Rattle.gp_ring.specs.PlainRing.{PlainRing}
 use Rattle.gp_cpu.specs.Samples.{sampled_at}
-use Rattle.gp_samples.specs.RunRing.{KeepsRing, with_offers, sample_at}
-use Rattle.gp_samples.proofs.Keeping.{entry_keeps, body_offerable}
+use Rattle.gp_samples.specs.RunRing.{sample_at}
 use Rattle.gp_tally.specs.declared.row.Row.{Row}
+use Rattle.gp_world.specs.declared.ring_end.RingEnd.{RingEnd}
 use Rattle.gp_world.specs.declared.world.Numbers.{Numbers}
 use Rattle.gp_world.specs.Calls.{live_at_open, live_at_open_from}
 use Rattle.gp_world.specs.Rows.{blank, worker_row, runs_one, has_finished}
-use Rattle.gp_world.specs.kept.World.{picks_by, TellsProfiles, IsRingOf, AreRows, AreUnborn, AreNumbers, IsWorld}
+use Rattle.gp_world.specs.kept.World.{picks_by, TellsProfiles, AreRows, AreUnborn, AreNumbers, IsWorld}
+use Rattle.gp_world.specs.RingEnds.{with_sampled}
+use Rattle.gp_world.specs.kept.Ending.{MayOffer}
 use Rattle.gp_world.specs.kept.Entering.{IsMine, IsQuiet, MayJoin, HandsOut, IsSpare}
+use Rattle.gp_world.proofs.RingEnds.{end_then, may_offer}
 use Rattle.gp_world.proofs.Rows.{LeavesOthers, whole_now, then_is, leaves_others, times_append, times_gone, times_left, rows_set, waits_worker, tells_on, not_finished, picks_none, on_worker, with_is, busy_picks_none, runs_by, picks_one, picks_no_other}
 
 -- ---- numbers kept beside
@@ -166,7 +167,7 @@ quiet_leaves code settings s (Run w g n) quiet = record { epochs = tt; opens = t
 quiet_leaves code settings s (Park w g) quiet = record { epochs = tt; opens = tt; bears = refl; samples = refl }
 quiet_leaves code settings s made quiet = absurd quiet
 
-module _ (program : Parts) (settings : Settings) (journal : List Entry) (line : Line) (ring : PlainRing) (rows : List Row) (unborn : List Body) (numbers : Numbers)
+module _ (program : Parts) (settings : Settings) (journal : List Entry) (line : Line) (ring : RingEnd) (rows : List Row) (unborn : List Body) (numbers : Numbers)
     (it : IsWorld program settings journal line ring rows unborn numbers) (made : Entry) (may : May (code_of program) settings (state_of program settings journal) made) where
   abbrev now : State
   now = state_of program settings journal
@@ -199,42 +200,19 @@ module _ (program : Parts) (settings : Settings) (journal : List Entry) (line : 
   pub workers_then : length (state_of program settings longer).workers ≡ settings.workers
   workers_then = (is_kept (code_of program) settings (state_of program settings longer) reached_then it.in_range).numbered.number
 
-  pub ring_open : ((get_or rows settings.workers blank).a == has_finished) ≡ false
+  pub ring_open : (get_or rows settings.workers blank).a < has_finished
   ring_open = not_finished settings now (get_or rows settings.workers blank) it.its_rows.profiles going
 
-  pub ring_keeps : KeepsRing program settings journal it.its_ring.taken ring
-  ring_keeps = record {
-    header = it.its_ring.header;
-    words = it.its_ring.words;
-    tags = it.its_ring.tags;
-    is_open = it.its_ring.is_ended ∙ ring_open;
-    follows = it.its_ring.follows;
-    whole = it.its_ring.whole;
-  }
-
-  ring_then : (b : Bool) → b ≡ false → IsRingOf program settings longer b (with_offers ring (sampled_at (code_of program) now made))
-  ring_then b e =
-      let keeps = entry_keeps program settings it.in_range journal it.its_ring.taken ring ring_keeps made in
-      record {
-        taken = it.its_ring.taken;
-        header = keeps.header;
-        words = keeps.words;
-        tags = keeps.tags;
-        follows = keeps.follows;
-        whole = keeps.whole;
-        is_ended = keeps.is_open ∙ sym e;
-      }
-
   -- The world once rows, line, bodies and numbers go with the entry.
-  pub enters : (later : Line) (sampled : PlainRing) (set_rows : List Row) (left : List Body) (counts : Numbers) → later.cells ≡ line.cells → AreRows program settings longer later.items set_rows →
-      ((get_or set_rows settings.workers blank).a == has_finished) ≡ false → sampled ≡ with_offers ring (sampled_at (code_of program) now made) →
+  pub enters : (later : Line) (sampled : RingEnd) (set_rows : List Row) (left : List Body) (counts : Numbers) → later.cells ≡ line.cells → AreRows program settings longer later.items set_rows →
+      (get_or set_rows settings.workers blank).a < has_finished → sampled ≡ with_sampled ring sampled (sampled_at (code_of program) now made) →
       AreUnborn program settings longer left → AreNumbers program settings longer counts → IsWorld program settings longer later sampled set_rows left counts
   enters later sampled set_rows left counts cells are_rows unfinished offered are_unborn are_numbers = record {
     in_range = it.in_range;
     legal = legal_then;
     its_cells = cells ∙ it.its_cells;
     its_rows = are_rows;
-    its_ring = subst (IsRingOf program settings longer ((get_or set_rows settings.workers blank).a == has_finished)) (sym offered) (ring_then ((get_or set_rows settings.workers blank).a == has_finished) unfinished);
+    its_ring = end_then program settings journal made (get_or rows settings.workers blank).a (get_or set_rows settings.workers blank).a ring sampled ring_open unfinished it.its_ring offered;
     its_unborn = are_unborn;
     its_numbers = are_numbers;
   }
@@ -302,11 +280,11 @@ module _ (program : Parts) (settings : Settings) (journal : List Entry) (line : 
         (subst (TellsProfiles settings (state_of program settings longer)) (sym profiler_stays)
         (tells_on settings now (state_of program settings longer) (get_or rows settings.workers blank) it.its_rows.profiles epochs_stay going))
 
-    pub finished_not : ((get_or (set rows w row) settings.workers blank).a == has_finished) ≡ false
-    finished_not = ap (λ (r : Row). r.a == has_finished) profiler_stays ∙ ring_open
+    pub finished_not : (get_or (set rows w row) settings.workers blank).a < has_finished
+    finished_not = subst (λ (r : Row). r.a < has_finished) (sym profiler_stays) ring_open
 
     -- the world after it, once line, ring and bodies go with it
-    pub worker_enters : (after_it : Line) (sampled : PlainRing) (left : List Body) → after_it.cells ≡ line.cells → after_it.items ≡ line.items ++ joining made told → sampled ≡ with_offers ring (sampled_at (code_of program) now made) →
+    pub worker_enters : (after_it : Line) (sampled : RingEnd) (left : List Body) → after_it.cells ≡ line.cells → after_it.items ≡ line.items ++ joining made told → sampled ≡ with_sampled ring sampled (sampled_at (code_of program) now made) →
         AreUnborn program settings longer left → OpensNothing made → IsWorld program settings longer after_it sampled (set rows w row) left numbers
     worker_enters after_it sampled left cells items offered are_unborn opens =
         enters after_it sampled (set rows w row) left numbers cells (subst (λ items. AreRows program settings longer items (set rows w row)) (sym items) rows_by_worker) finished_not offered are_unborn (numbers_then opens)
@@ -314,7 +292,7 @@ module _ (program : Parts) (settings : Settings) (journal : List Entry) (line : 
     -- and after one that is quiet
     pub quiet_enters : LeavesMuch (code_of program) settings now made → IsWorld program settings longer (record line { items = line.items ++ joining made told }) ring (set rows w row) unborn numbers
     quiet_enters much =
-        worker_enters (record line { items = line.items ++ joining made told }) ring unborn refl refl (ap (with_offers ring) (sym much.samples)) (unborn_then much.bears) much.opens
+        worker_enters (record line { items = line.items ++ joining made told }) ring unborn refl refl (ap (with_sampled ring ring) (sym much.samples)) (unborn_then much.bears) much.opens
 
   -- A worker that runs somebody may make each entry of its own but a Start.
   pub mine_due : (w g : ℕ) → w < settings.workers → (worker now w).runs ≡ Some g → (get_or rows w blank).a ≡ runs_one
@@ -328,8 +306,8 @@ module _ (program : Parts) (settings : Settings) (journal : List Entry) (line : 
   pub time_fits : 1000 * now.clock < 2 ^ 64
   time_fits = let low = clock_fits (code_of program) settings now reached it.in_range in omega arith
 
-  pub sample_may_be_offered : (g : ℕ) (place : Progress) → place ≡ standing (goroutine now g) → IsOfferable ring (sample_at program now.clock place)
-  sample_may_be_offered g place stands = body_offerable program settings it.in_range journal it.its_ring.taken ring ring_keeps g place stands few_entries
+  pub sample_may_be_offered : (g : ℕ) (place : Progress) → place ≡ standing (goroutine now g) → MayOffer ring (sample_at program now.clock place)
+  sample_may_be_offered g place stands = may_offer program settings journal (get_or rows settings.workers blank).a ring it.in_range ring_open it.its_ring g place stands few_entries
 
   -- ---- who is born
 

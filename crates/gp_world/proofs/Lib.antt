@@ -1,6 +1,7 @@
 pub mod Picks
 pub mod Picked
 pub mod Rows
+pub mod RingEnds
 pub mod Entering
 pub mod Profiling
 pub mod Started

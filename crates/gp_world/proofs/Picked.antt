@@ -15,13 +15,14 @@ use Rattle.gp_journal.specs.Standing.{times, head_of, without}
 use Rattle.gp_journal.specs.State.{State, code_of, goroutine, worker, is_idle, is_runnable, is_live}
 use Rattle.gp_journal.proofs.Lemmas.{changed, place, times-cons, one_at, without_head, is_kept, holds_runnable, runnable_born, born_cell, live_status}
 use Rattle.gp_machine.specs.Queue.{Line}
-use Rattle.gp_ring.specs.PlainRing.{PlainRing}
 use Rattle.gp_tally.specs.declared.row.Row.{Row}
 use Rattle.gp_world.specs.declared.world.Numbers.{Numbers}
 use Rattle.gp_world.specs.declared.pick.Pick.TheVariants as pick
 use Rattle.gp_world.specs.Calls.{pick_of}
-use Rattle.gp_world.specs.Rows.{blank, row_of, has_nothing, has_picked, runs_one, is_done, has_finished, on_of}
-use Rattle.gp_world.specs.kept.World.{IsWorld, TellsProfiles, IsRingOf, picks, picks_by}
+use Rattle.gp_world.specs.Rows.{blank, row_of, has_nothing, has_picked, runs_one, is_done, on_of}
+use Rattle.gp_world.specs.declared.ring_end.RingEnd.{RingEnd}
+use Rattle.gp_world.specs.kept.Ending.{IsEnd}
+use Rattle.gp_world.specs.kept.World.{IsWorld, TellsProfiles, picks, picks_by}
 use Rattle.gp_world.specs.kept.Workers.{HasPicked}
 use Rattle.gp_world.proofs.Picks.{picks_set}
 
@@ -42,7 +43,7 @@ picked_one row g a b = rw (a, b, eq-eqb g g refl) refl
 pub picks_none : (row : Row) (g : ℕ) → row.a ≢ has_picked → picks_by row g ≡ 0
 picks_none row g other = rw (ne_eqb row.a has_picked other) refl
 
-module _ (program : Parts) (settings : Settings) (journal : List Entry) (line : Line) (ring : PlainRing) (rows : List Row) (unborn : List Body) (numbers : Numbers)
+module _ (program : Parts) (settings : Settings) (journal : List Entry) (line : Line) (ring : RingEnd) (rows : List Row) (unborn : List Body) (numbers : Numbers)
     (was : IsWorld program settings journal line ring rows unborn numbers) (w : ℕ) (is_worker : w < settings.workers) where
   abbrev pub now : State
   now = state_of program settings journal
@@ -65,7 +66,7 @@ module _ (program : Parts) (settings : Settings) (journal : List Entry) (line : 
       waits = λ g. let all = was.its_rows.waits g in let each = picks_set rows w settings.workers g row is_worker within in let both = together g in omega arith;
       profiles = subst (TellsProfiles settings now) (sym last) was.its_rows.profiles;
     };
-    its_ring = subst (λ (x : Row). IsRingOf program settings journal (x.a == has_finished) ring) (sym last) was.its_ring;
+    its_ring = subst (λ (x : Row). IsEnd program settings journal x.a ring) (sym last) was.its_ring;
     its_unborn = was.its_unborn;
     its_numbers = was.its_numbers;
   }

@@ -21,13 +21,15 @@ use Rattle.gp_journal.specs.State.{Code, State, resting, code_of, goroutine, wor
 use Rattle.gp_journal.specs.StepLaws.{SameEpochs}
 use Rattle.gp_journal.proofs.Lemmas.{step_epochs, is_kept, runs_there, live_status}
 use Rattle.gp_machine.specs.Queue.{Line}
-use Rattle.gp_ring.specs.PlainRing.{PlainRing, closed}
-use Rattle.gp_ring.proofs.Reading.{close-follows}
-use Rattle.gp_cpu.specs.Samples.{sampled_at, samples_of_journal}
-use Rattle.gp_samples.specs.RunRing.{with_offers}
+use Rattle.gp_cpu.specs.Samples.{sampled_at}
 use Rattle.gp_tally.specs.declared.row.Row.{Row}
+use Rattle.gp_world.specs.declared.ring_end.RingEnd.{RingEnd}
+use Rattle.gp_world.specs.declared.ring_end.RingEnd.TheVariants.{Settled}
 use Rattle.gp_world.specs.declared.world.Numbers.{Numbers}
-use Rattle.gp_world.specs.Rows.{blank, row_of, profiler_row, finished_row, has_picked, runs_one, between_profiles, within_profile, has_finished, on_of}
+use Rattle.gp_world.specs.RingEnds.{with_sampled, shut_of}
+use Rattle.gp_world.specs.kept.Ending.{IsEnd}
+use Rattle.gp_world.proofs.RingEnds.{shut_end}
+use Rattle.gp_world.specs.Rows.{blank, row_of, profiler_row, finished_row, settled_row, has_picked, runs_one, between_profiles, within_profile, has_finished, on_of}
 use Rattle.gp_world.specs.kept.World.{picks, picks_by, TellsProfiles, AreNumbers, IsWorld}
 use Rattle.gp_world.proofs.Picked.{pick_stands}
 use Rattle.gp_world.proofs.Rows.{LeavesOthers, leaves_all, whole_now, then_is, leaves_others, rows_set, waits_worker, waits_profiler, tells_on, tells_now}
@@ -59,18 +61,18 @@ close_queue code settings s epoch = refl
 tells_same : (settings : Settings) (s : State) (old new : Row) → new.a ≡ old.a → new.b ≡ old.b → TellsProfiles settings s old → TellsProfiles settings s new
 tells_same settings s old new a b tells = record {
   epoch = b ∙ tells.epoch;
-  is_one = subst (λ n. ((n ≡ between_profiles) × (s.active ≡ 0)) ⊎ (((n ≡ within_profile) × (0 < s.active)) ⊎ ((n ≡ has_finished) × IsComplete settings s))) (sym a) tells.is_one;
+  is_one = subst (λ n. ((n ≡ between_profiles) × (s.active ≡ 0)) ⊎ (((n ≡ within_profile) × (0 < s.active)) ⊎ ((has_finished ≤ n) × IsComplete settings s))) (sym a) tells.is_one;
 }
 
 -- the row of the profiler that hasn't finished says so
-unfinished : (active : ℕ) → ((if active == 0 then between_profiles else within_profile) == has_finished) ≡ false
+unfinished : (active : ℕ) → (if active == 0 then between_profiles else within_profile) < has_finished
 unfinished active = by (active == 0)
   where
-    by : (b : Bool) → ((if b then between_profiles else within_profile) == has_finished) ≡ false
-    by true = refl
-    by false = refl
+    by : (b : Bool) → (if b then between_profiles else within_profile) < has_finished
+    by true = omega arith
+    by false = omega arith
 
-module _ (program : Parts) (settings : Settings) (journal : List Entry) (line : Line) (ring : PlainRing) (rows : List Row) (unborn : List Body) (numbers : Numbers)
+module _ (program : Parts) (settings : Settings) (journal : List Entry) (line : Line) (ring : RingEnd) (rows : List Row) (unborn : List Body) (numbers : Numbers)
     (it : IsWorld program settings journal line ring rows unborn numbers) where
   abbrev now : State
   now = state_of program settings journal
@@ -106,8 +108,8 @@ module _ (program : Parts) (settings : Settings) (journal : List Entry) (line : 
         (λ below. absurd (omega arith))
         (waits_profiler program settings journal longer line.items rows row it.its_rows (ap (λ (t : State). t.queue) later ∙ queue))
         (subst (TellsProfiles settings (state_of program settings longer)) (sym mine) (tells_now program settings longer)))
-        (ap (λ (r : Row). r.a == has_finished) mine ∙ unfinished (state_of program settings longer).active)
-        (ap (with_offers ring) (sym samples))
+        (subst (λ (r : Row). r.a < has_finished) (sym mine) (unfinished (state_of program settings longer).active))
+        (ap (with_sampled ring ring) (sym samples))
         (unborn_then program settings journal line ring rows unborn numbers it made may bears)
         are_numbers
 
@@ -178,16 +180,17 @@ module _ (program : Parts) (settings : Settings) (journal : List Entry) (line : 
         waits_same
         (tells_same settings (state_of program settings recorded) (get_or rows settings.workers blank) (get_or (set rows actor new) settings.workers blank) first_same.0 first_same.1
         (tells_on settings now (state_of program settings recorded) (get_or rows settings.workers blank) it.its_rows.profiles same_epochs (going program settings journal line ring rows unborn numbers it (Record actor g) may))))
-        (ap (λ n. n == has_finished) first_same.0 ∙ ring_open program settings journal line ring rows unborn numbers it (Record actor g) may)
+        (subst (λ n. n < has_finished) (sym first_same.0) (ring_open program settings journal line ring rows unborn numbers it (Record actor g) may))
         refl
         (unborn_then program settings journal line ring rows unborn numbers it (Record actor g) may refl)
         (numbers_then program settings journal line ring rows unborn numbers it (Record actor g) may tt)
 
-  -- ---- the profiler finishes
+  -- ---- the profiler finishes, and the ring is settled
 
-  pub shuts : IsComplete settings now → IsWorld program settings journal line (closed ring) (set rows settings.workers (finished_row program settings journal)) unborn numbers
-  shuts complete =
-      let row = finished_row program settings journal in
+  -- the profiler's row alone is set, of a run that is complete, and the ring's end goes with it
+  ends : (row : Row) (next : RingEnd) → row ≡ row_of program settings journal settings.workers row.a row.b → row.b ≡ now.last_epoch → has_finished ≤ row.a → IsComplete settings now → IsEnd program settings journal row.a next →
+      IsWorld program settings journal line next (set rows settings.workers row) unborn numbers
+  ends row next counted epoch done complete is_end =
       let within : settings.workers < length rows = let all = it.its_rows.actors in omega arith in
       let mine = get_or-set_same rows settings.workers row blank within in
       record {
@@ -195,22 +198,21 @@ module _ (program : Parts) (settings : Settings) (journal : List Entry) (line : 
         legal = it.legal;
         its_cells = it.its_cells;
         its_rows =
-            rows_set program settings journal journal line.items line.items rows settings.workers row it.its_rows (leaves_all program settings journal settings.workers) (omega arith) refl
+            rows_set program settings journal journal line.items line.items rows settings.workers row it.its_rows (leaves_all program settings journal settings.workers) (omega arith) counted
             (λ below. absurd (omega arith))
             (waits_profiler program settings journal journal line.items rows row it.its_rows refl)
-            (subst (TellsProfiles settings now) (sym mine) (record { epoch = refl; is_one = inr (inr (refl, complete)) }));
-        its_ring = record {
-          taken = it.its_ring.taken;
-          header = it.its_ring.header;
-          words = it.its_ring.words;
-          tags = it.its_ring.tags;
-          follows = close-follows (samples_of_journal (code_of program) settings journal) it.its_ring.taken ring it.its_ring.follows;
-          whole = it.its_ring.whole;
-          is_ended = sym (ap (λ (r : Row). r.a == has_finished) mine);
-        };
+            (subst (TellsProfiles settings now) (sym mine) (record { epoch = epoch; is_one = inr (inr (done, complete)) }));
+        its_ring = subst (λ (r : Row). IsEnd program settings journal r.a next) (sym mine) is_end;
         its_unborn = it.its_unborn;
         its_numbers = it.its_numbers;
       }
+
+  pub shuts : IsComplete settings now → (get_or rows settings.workers blank).a < has_finished → IsWorld program settings journal line (shut_of ring) (set rows settings.workers (finished_row program settings journal)) unborn numbers
+  shuts complete below =
+      ends (finished_row program settings journal) (shut_of ring) refl refl (omega arith) complete (shut_end program settings journal (get_or rows settings.workers blank).a ring below it.its_ring)
+
+  pub settles : IsComplete settings now → IsWorld program settings journal line Settled (set rows settings.workers (settled_row program settings journal)) unborn numbers
+  settles complete = ends (settled_row program settings journal) Settled refl refl (omega arith) complete refl
 
   -- ---- what a share's row tells
 
@@ -237,7 +239,7 @@ module _ (program : Parts) (settings : Settings) (journal : List Entry) (line : 
         here = subst (λ n. has_finished ≤ n) (sym (ap (λ n. (get_or rows n blank).a) (sym profiler) ∙ ap (λ (r : Row). r.a) its)) done
 
         by : (((get_or rows settings.workers blank).a ≡ between_profiles) × (now.active ≡ 0)) ⊎ ((((get_or rows settings.workers blank).a ≡ within_profile) × (0 < now.active))
-            ⊎ (((get_or rows settings.workers blank).a ≡ has_finished) × IsComplete settings now)) → IsComplete settings now
+            ⊎ ((has_finished ≤ (get_or rows settings.workers blank).a) × IsComplete settings now)) → IsComplete settings now
         by (inl none) = let a = none.0 in let b = here in absurd (omega arith)
         by (inr (inl one)) = let a = one.0 in let b = here in absurd (omega arith)
         by (inr (inr complete)) = complete.1

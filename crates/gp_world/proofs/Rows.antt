@@ -128,19 +128,19 @@ waits_profiler program settings before later waiting rows row it same g =
 pub tells_on : (settings : Settings) (s t : State) (row : Row) → TellsProfiles settings s row → SameEpochs s t → (IsComplete settings s → ⊥) → TellsProfiles settings t row
 tells_on settings s t row tells same going = record { epoch = tells.epoch ∙ sym same.last_epoch; is_one = by tells.is_one }
   where
-    by : ((row.a ≡ between_profiles) × (s.active ≡ 0)) ⊎ (((row.a ≡ within_profile) × (0 < s.active)) ⊎ ((row.a ≡ has_finished) × IsComplete settings s)) →
-        ((row.a ≡ between_profiles) × (t.active ≡ 0)) ⊎ (((row.a ≡ within_profile) × (0 < t.active)) ⊎ ((row.a ≡ has_finished) × IsComplete settings t))
+    by : ((row.a ≡ between_profiles) × (s.active ≡ 0)) ⊎ (((row.a ≡ within_profile) × (0 < s.active)) ⊎ ((has_finished ≤ row.a) × IsComplete settings s)) →
+        ((row.a ≡ between_profiles) × (t.active ≡ 0)) ⊎ (((row.a ≡ within_profile) × (0 < t.active)) ⊎ ((has_finished ≤ row.a) × IsComplete settings t))
     by (inl none) = inl (none.0, same.active ∙ none.1)
     by (inr (inl one)) = inr (inl (one.0, subst (λ n. 0 < n) (sym same.active) one.1))
     by (inr (inr done)) = absurd (going done.1)
 
 -- and then it hasn't finished.
-pub not_finished : (settings : Settings) (s : State) (row : Row) → TellsProfiles settings s row → (IsComplete settings s → ⊥) → (row.a == has_finished) ≡ false
+pub not_finished : (settings : Settings) (s : State) (row : Row) → TellsProfiles settings s row → (IsComplete settings s → ⊥) → row.a < has_finished
 not_finished settings s row tells going = by tells.is_one
   where
-    by : ((row.a ≡ between_profiles) × (s.active ≡ 0)) ⊎ (((row.a ≡ within_profile) × (0 < s.active)) ⊎ ((row.a ≡ has_finished) × IsComplete settings s)) → (row.a == has_finished) ≡ false
-    by (inl none) = ne_eqb row.a has_finished (λ same. absurd (let is = none.0 in omega arith))
-    by (inr (inl one)) = ne_eqb row.a has_finished (λ same. absurd (let is = one.0 in omega arith))
+    by : ((row.a ≡ between_profiles) × (s.active ≡ 0)) ⊎ (((row.a ≡ within_profile) × (0 < s.active)) ⊎ ((has_finished ≤ row.a) × IsComplete settings s)) → row.a < has_finished
+    by (inl none) = let is = none.0 in omega arith
+    by (inr (inl one)) = let is = one.0 in omega arith
     by (inr (inr done)) = absurd (going done.1)
 
 -- The row of the profiler that hasn't finished tells of profiles.
@@ -148,7 +148,7 @@ pub tells_now : (program : Parts) (settings : Settings) (journal : List Entry) �
 tells_now program settings journal = let now = state_of program settings journal in record { epoch = refl; is_one = by now (cases_eq now.active 0) }
   where
     by : (now : State) → (now.active ≡ 0) ⊎ (now.active ≡ 0 → ⊥) → let a = if now.active == 0 then between_profiles else within_profile in
-        ((a ≡ between_profiles) × (now.active ≡ 0)) ⊎ (((a ≡ within_profile) × (0 < now.active)) ⊎ ((a ≡ has_finished) × IsComplete settings now))
+        ((a ≡ between_profiles) × (now.active ≡ 0)) ⊎ (((a ≡ within_profile) × (0 < now.active)) ⊎ ((has_finished ≤ a) × IsComplete settings now))
     by now (inl none) = inl (ap (λ (b : Bool). if b then between_profiles else within_profile) (eq-eqb now.active 0 none), none)
     by now (inr some) = inr (inl (ap (λ (b : Bool). if b then between_profiles else within_profile) (ne_eqb now.active 0 some), omega arith))
 

@@ -39,11 +39,12 @@ use Rattle.gp_machine.specs.OnWorker.{IsDueOn, OpIsDueOn, IsNextOn, IsPeekOn}
 use Rattle.gp_machine.proofs.Peeked.{ahead_local}
 use Rattle.gp_journal.specs.declared.answer.Woken.{Woken}
 use Rattle.gp_journal.specs.declared.answer.Wait.{Wait}
-use Rattle.gp_ring.specs.PlainRing.{PlainRing, written}
 use Rattle.gp_cpu.specs.Samples.{sample_of}
 use Rattle.gp_world.specs.Scene.{Scene}
+use Rattle.gp_world.specs.declared.ring_end.RingEnd.{RingEnd}
 use Rattle.gp_world.specs.declared.step.Step.TheVariants as step
 use Rattle.gp_world.specs.Calls.{IsStep}
+use Rattle.gp_world.specs.RingEnds.{with_sample}
 use Rattle.gp_stack.specs.declared.body.Body.{Body}
 use Rattle.gp_world.specs.kept.Entering.{IsSpare}
 use Rattle.gp_world.specs.kept.Workers.{after_due, BearsIn, start_of, place_of_newborn}
@@ -212,11 +213,11 @@ module _ (program : Parts) (settings : Settings) (journal : List Entry) (legal :
 -- ---- what a step answers
 
 -- a worker's goroutine passed its point
-pub passed_step : (program : Parts) (settings : Settings) (s : State) (ring : PlainRing) (w g : ℕ) (woke : Option Woken) (event : Option Wait) (died : Bool) →
+pub passed_step : (program : Parts) (settings : Settings) (s : State) (ring ring_next : RingEnd) (w g : ℕ) (woke : Option Woken) (event : Option Wait) (died : Bool) →
     due (code_of program) settings s w g ≡ Op w g → op_answer (code_of program) settings g s ≡ answer.Passed woke event died →
-    IsStep program settings s ring w g (if died then step.Died else step.Passed)
-passed_step program settings s ring w g woke event true is told = inr (record { is_op = is; woke = woke; event = event; told = told })
-passed_step program settings s ring w g woke event false is told = record { is_op = is; woke = woke; event = event; told = told }
+    IsStep program settings s ring ring_next w g (if died then step.Died else step.Passed)
+passed_step program settings s ring ring_next w g woke event true is told = inr (record { is_op = is; woke = woke; event = event; told = told })
+passed_step program settings s ring ring_next w g woke event false is told = record { is_op = is; woke = woke; event = event; told = told }
 
 -- A look ahead at a body is at the next points of its goroutine.
 pub peek_there : (program : Parts) (s : State) (g : ℕ) (place : Progress) (peek : Peek) → place ≡ standing (goroutine s g) → peek.local ≡ min quantum (ahead_at program place) →
@@ -253,12 +254,12 @@ due_told program settings there journal n w g made told same number =
     (subst (λ x. IsDueOn program settings x w made) same (subst (λ k. IsDueOn program settings there k made) number told)) g
 
 -- the scene after a Tick
-pub tick_scene : (program : Parts) (settings : Settings) (scene : Scene) (w g : ℕ) →
+pub tick_scene : (program : Parts) (settings : Settings) (scene next : Scene) (w g : ℕ) →
     let s = state_of program settings scene.journal in
-    record scene { journal = scene.journal ++ Tick w g ∷ []; ring = written scene.ring (sample_of (code_of program) s (goroutine s g)) } ≡ after_due program settings scene (Tick w g)
-tick_scene program settings scene w g =
+    record scene { journal = scene.journal ++ Tick w g ∷ []; ring = with_sample scene.ring next.ring (sample_of (code_of program) s (goroutine s g)) } ≡ after_due program settings scene next (Tick w g)
+tick_scene program settings scene next w g =
     let s = state_of program settings scene.journal in
-    λ i. record scene { journal = scene.journal ++ Tick w g ∷ []; waiting = sym (append-nil scene.waiting) i; ring = written scene.ring (sample_of (code_of program) s (goroutine s g)) }
+    λ i. record scene { journal = scene.journal ++ Tick w g ∷ []; waiting = sym (append-nil scene.waiting) i; ring = with_sample scene.ring next.ring (sample_of (code_of program) s (goroutine s g)) }
 
 -- what is so beside where there is no value
 pub on_error : {A E : Type 0} (B C : Type 0) (r : Result A E) → B → OnErr r C → OnErr r (B × C)

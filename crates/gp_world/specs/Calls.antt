@@ -18,15 +18,16 @@ use Rattle.gp_journal.specs.May.{is_recorded}
 use Rattle.gp_journal.specs.Run.{state_of}
 use Rattle.gp_journal.specs.State.{Code, State, code_of, goroutine, live, first}
 use Rattle.gp_history.specs.Events.{event_of, AddsEvent}
-use Rattle.gp_ring.specs.PlainRing.{PlainRing, wrote}
 use Rattle.gp_cpu.specs.Samples.{sample_of}
 use Rattle.gp_tally.specs.declared.row.Row.{Row}
+use Rattle.gp_world.specs.declared.ring_end.RingEnd.{RingEnd}
 use Rattle.gp_world.specs.declared.pick.Pick.{Pick}
 use Rattle.gp_world.specs.declared.pick.Pick.TheVariants as pick
 use Rattle.gp_world.specs.declared.begun.Begun.{Begun}
 use Rattle.gp_world.specs.declared.begun.Begun.TheVariants as begun
 use Rattle.gp_world.specs.declared.step.Step.{Step}
 use Rattle.gp_world.specs.declared.step.Step.TheVariants as step
+use Rattle.gp_world.specs.RingEnds.{Tells}
 use Rattle.gp_world.specs.Rows.{row_of, has_nothing, has_picked, runs_one, is_done}
 
 -- ---- pick
@@ -119,24 +120,24 @@ pub record IsNewborn (program : Parts) (now : State) (h epoch : ℕ) (progress :
   pub stands : progress ≡ standing (goroutine now h)
 
 -- What a step of g on w answers to its due entry, by what became of it. One answer alone is right, since the due entry and what
--- it does are told by the state.
-abbrev pub IsStep : Parts → Settings → State → PlainRing → ℕ → ℕ → Step → Type 0
-IsStep program settings state ring w g (step.Advance n) =
+-- it does are told by the state, and what became of a sample by the two ends of the ring, before and after.
+abbrev pub IsStep : Parts → Settings → State → (ring next : RingEnd) → ℕ → ℕ → Step → Type 0
+IsStep program settings state ring next w g (step.Advance n) =
     (due (code_of program) settings state w g ≡ Run w g n) × (applied (code_of program) settings state (Run w g n) ≡ answer.Plain false)
-IsStep program settings state ring w g step.Died =
+IsStep program settings state ring next w g step.Died =
     HasRunOut (code_of program) settings state w g ⊎ HasPassed (code_of program) settings state w g true
-IsStep program settings state ring w g (step.Born h epoch body died) =
+IsStep program settings state ring next w g (step.Born h epoch body died) =
     (due (code_of program) settings state w g ≡ Op w g)
     × ((applied (code_of program) settings state (Op w g) ≡ answer.Born h died)
     × (StandsIn program body × IsNewborn program (after (code_of program) settings state (Op w g)) h epoch (progress_of body)))
-IsStep program settings state ring w g (step.Ticked wrote_it) =
+IsStep program settings state ring next w g (step.Ticked wrote_it) =
     (due (code_of program) settings state w g ≡ Tick w g)
-    × (wrote_it ≡ wrote ring (sample_of (code_of program) state (goroutine state g)))
-IsStep program settings state ring w g step.Passed = HasPassed (code_of program) settings state w g false
-IsStep program settings state ring w g step.Blocked =
+    × Tells ring next (sample_of (code_of program) state (goroutine state g)) wrote_it
+IsStep program settings state ring next w g step.Passed = HasPassed (code_of program) settings state w g false
+IsStep program settings state ring next w g step.Blocked =
     (due (code_of program) settings state w g ≡ Op w g) × (applied (code_of program) settings state (Op w g) ≡ answer.Blocked)
-IsStep program settings state ring w g step.Parked = due (code_of program) settings state w g ≡ Park w g
-IsStep program settings state ring w g (step.Faulted cause) =
+IsStep program settings state ring next w g step.Parked = due (code_of program) settings state w g ≡ Park w g
+IsStep program settings state ring next w g (step.Faulted cause) =
     (due (code_of program) settings state w g ≡ Op w g) × (applied (code_of program) settings state (Op w g) ≡ answer.Fault cause)
 
 -- Where its body stands behind an entry that is answered so: one point further where an Op passed its point.

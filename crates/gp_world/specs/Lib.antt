@@ -1,3 +1,4 @@
+pub mod RingEnds
 pub mod Scene
 pub mod Rows
 pub mod Calls

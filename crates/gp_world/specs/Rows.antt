@@ -25,8 +25,8 @@ runs_one = 2
 abbrev pub is_done : ℕ
 is_done = 3
 
--- What that of the profiler's row says: no profile is active, one is, or the profiler has finished. The second number is the
--- last epoch given.
+-- What that of the profiler's row says: no profile is active, one is, the profiler has finished, or the reader has then taken in the
+-- ring's end. The second number is the last epoch given.
 abbrev pub between_profiles : ℕ
 between_profiles = 0
 
@@ -35,6 +35,9 @@ within_profile = 1
 
 abbrev pub has_finished : ℕ
 has_finished = 2
+
+abbrev pub has_settled : ℕ
+has_settled = 3
 
 -- the row of an actor that has done nothing
 abbrev pub blank : Row
@@ -69,6 +72,11 @@ profiler_row program settings journal =
 abbrev pub finished_row : Parts → Settings → List Entry → Row
 finished_row program settings journal =
     row_of program settings journal settings.workers has_finished (state_of program settings journal).last_epoch
+
+-- and once the ring's end is taken in
+abbrev pub settled_row : Parts → Settings → List Entry → Row
+settled_row program settings journal =
+    row_of program settings journal settings.workers has_settled (state_of program settings journal).last_epoch
 
 -- whom a worker runs, by its row
 abbrev pub on_of : Row → Option ℕ

@@ -1,7 +1,7 @@
 //! The rows of actors after a machine's journal. What an actor made and ran is asked of the machine, not counted up.
 ghost use Rattle.std.specs.Prelude.{◌≡◌, ◌<◌, ◌≤◌, ◌==◌, if◌then◌else◌, length};
 ghost use Rattle.gp_journal.specs.Run.{state_of};
-ghost use Rattle.gp_world.specs.Rows.{row_of, worker_row, profiler_row, finished_row, between_profiles, within_profile};
+ghost use Rattle.gp_world.specs.Rows.{row_of, worker_row, profiler_row, finished_row, settled_row, between_profiles, within_profile};
 
 use gp_machine::{Machine, Run};
 use gp_tally::Row;
@@ -21,6 +21,8 @@ const BETWEEN: u64 = 0;
 const WITHIN: u64 = 1;
 
 const FINISHED: u64 = 2;
+
+const SETTLED: u64 = 3;
 
 // A worker's row with two numbers.
 pub(crate) fn worker_with<R: Run>(machine: &Machine<R>, w: u32, a: u64, b: u64) -> Row
@@ -108,4 +110,13 @@ pub(crate) fn finished_row<R: Run>(machine: &Machine<R>, workers: u32) -> Row
     ensures { result ≡ finished_row R.program R.settings machine.now }
 {
     profiler_with(machine, workers, FINISHED, u64::from(machine.last_epoch()))
+}
+
+// And of the one whose ring's end the reader has taken in.
+pub(crate) fn settled_row<R: Run>(machine: &Machine<R>, workers: u32) -> Row
+    requires workers { workers ≡ R.settings.workers }
+    requires no_more { length (state_of R.program R.settings machine.now).workers ≡ R.settings.workers }
+    ensures { result ≡ settled_row R.program R.settings machine.now }
+{
+    profiler_with(machine, workers, SETTLED, u64::from(machine.last_epoch()))
 }

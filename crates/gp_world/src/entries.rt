@@ -1,5 +1,5 @@
 //! The calls that make one entry. Each carries all that a world keeps, and all other calls stand on them.
-ghost use Rattle.std.specs.Prelude.{◌≡◌, ◌≢◌, ◌<◌, ◌≤◌, ◌⊎◌, ◌+◌, ◌++◌, ◌∷◌, [], true, IfOk, OnOk, OnErr};
+ghost use Rattle.std.specs.Prelude.{◌≡◌, ◌<◌, ◌≤◌, ◌⊎◌, ◌+◌, ◌++◌, ◌∷◌, [], true, false, IfOk, OnOk, OnErr};
 ghost use Rattle.gp_isa.specs.Trace.{trace};
 ghost use Rattle.gp_stack.specs.Body.{progress_of, StandsIn};
 ghost use Rattle.gp_history.specs.Events.{event_of, frames_of, AddsEvent};
@@ -15,21 +15,27 @@ ghost use Rattle.gp_journal.specs.Shown.{IsPointOf};
 ghost use Rattle.gp_journal.specs.State.{code_of, goroutine, is_live, live, worker};
 ghost use Rattle.gp_journal.specs.StepLaws.{joining};
 ghost use Rattle.gp_journal.specs.Waits.{cut_stack};
-ghost use Rattle.gp_ring.specs.PlainRing as plain;
-ghost use Rattle.gp_ring.specs.PlainRing.{written, closed};
-ghost use Rattle.gp_cpu.specs.Samples.{sample_of};
-ghost use Rattle.gp_world.specs.Rows.{row_of, worker_row, profiler_row, finished_row, has_picked, runs_one, has_finished, on_of, MayRecordAs};
+ghost use Rattle.gp_ring.specs.PlainRing.{End};
+ghost use Rattle.gp_ring.specs.Records.{Covers};
+ghost use Rattle.gp_ring.specs.TwoEnds.{ReaderEnd};
+ghost use Rattle.gp_cpu.specs.Samples.{sample_of, samples_of_journal};
+ghost use Rattle.gp_samples.specs.RunRing.{BeginWithHead};
+ghost use Rattle.gp_world.specs.declared.ring_end.RingEnd.TheVariants.{Settled};
+ghost use Rattle.gp_world.specs.RingEnds.{IsOf, Tells, with_sample, shut_of};
+ghost use Rattle.gp_world.specs.Rows.{row_of, worker_row, profiler_row, finished_row, settled_row, on_of, MayRecordAs};
+ghost use Rattle.gp_world.specs.Rows.{has_picked, runs_one, has_finished};
 ghost use Rattle.gp_world.specs.kept.Entering.{IsMine, IsQuiet, IsSpare, MayJoin, HandsOut};
 
-use crate::actor_rows::{actor_with, finished_row, profiler_row, worker_row};
+use crate::actor_rows::{actor_with, finished_row, profiler_row, settled_row, worker_row};
+use crate::ring_end::{RingEnd, closed_in, offer_at, shut};
 use crate::world::World;
 use gp_history::OpEvent;
 use gp_isa::{Memory, Program};
 use gp_machine::{Applied, Entry, Queue, Run, SharedPoint};
-use gp_ring::Wrote;
-use gp_samples::offer_sample;
+use gp_ring::{Reader, Wrote};
 use gp_stack::{Body, Record, Stack};
 use gp_tally::Share;
+use std::mem;
 
 // What an Op did, and a body for whoever was born, if somebody was.
 #[derive(Drop)]
@@ -107,15 +113,15 @@ impl<R: Run> World<R> {
         ensures scene { let state = state_of R.program R.settings self.old.journal in
             self.new ≡ record self.old {
               journal = self.old.journal ++ entry.Tick who.old.number g ∷ [];
-              ring = written self.old.ring (sample_of (code_of R.program) state (goroutine state g));
+              ring = with_sample self.old.ring self.new.ring (sample_of (code_of R.program) state (goroutine state g));
             } }
         ensures share { who.new ≡ record who.old { row = worker_row R.program R.settings self.new.journal who.old.number } }
         ensures wrote { let state = state_of R.program R.settings self.old.journal in
-            result ≡ plain.wrote self.old.ring (sample_of (code_of R.program) state (goroutine state g)) }
+            Tells self.old.ring self.new.ring (sample_of (code_of R.program) state (goroutine state g)) result }
     {
         let w = who.number();
         let clock = self.history.machine().clock();
-        let wrote = offer_sample(&mut self.ring, program, body, clock);
+        let wrote = offer_at(&mut self.ring, program, body, clock);
         self.history.enter(Entry::Tick { w, g });
         let row = worker_row(self.history.machine(), w);
         self.book.set(who, row);
@@ -249,12 +255,34 @@ impl<R: Run> World<R> {
         requires book { who.old.book ≡ self.old.book }
         requires profiler { who.old.number ≡ R.settings.workers }
         requires complete { IsComplete R.settings (state_of R.program R.settings self.old.journal) }
-        requires unfinished { who.old.row.a ≢ has_finished }
-        ensures scene { self.new ≡ record self.old { ring = closed self.old.ring } }
+        requires unfinished { who.old.row.a < has_finished }
+        ensures scene { self.new ≡ record self.old { ring = shut_of self.old.ring } }
         ensures share { who.new ≡ record who.old { row = finished_row R.program R.settings self.old.journal } }
     {
-        self.ring.close();
+        self.book.check(who);
+        self.ring = shut(mem::replace(&mut self.ring, RingEnd::Settled));
         let row = finished_row(self.history.machine(), self.numbers.workers);
+        self.book.set(who, row);
+    }
+
+    /// Lets the reader, which is of this ring and has found its end, take in the world's end of it, once the profiler has finished.
+    /// Afterwards it is known that the records which the reader took cover the samples of the journal, and begin with their head. It
+    /// comes once.
+    pub fn settle(&mut self, who: &mut Share, reader: &mut Reader)
+        requires book { who.old.book ≡ self.old.book }
+        requires profiler { who.old.number ≡ R.settings.workers }
+        requires finished { who.old.row.a ≡ has_finished }
+        requires ring { IsOf self.old.ring reader.old.ring }
+        requires end { reader.old.hand ≡ End }
+        ensures scene { self.new ≡ record self.old { ring = Settled } }
+        ensures share { who.new ≡ record who.old { row = settled_row R.program R.settings self.old.journal } }
+        ensures reader { reader.new ≡ record reader.old { end_loads = reader.old.end_loads + 1; end = 1; looked = false } }
+        ensures covered { Covers reader.new.taken (samples_of_journal (code_of R.program) R.settings self.new.journal) }
+        ensures head { BeginWithHead R.program R.settings self.new.journal reader.new.taken }
+    {
+        self.book.check(who);
+        reader.settle(closed_in(mem::replace(&mut self.ring, RingEnd::Settled)));
+        let row = settled_row(self.history.machine(), self.numbers.workers);
         self.book.set(who, row);
     }
 

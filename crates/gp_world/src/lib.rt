@@ -1,7 +1,7 @@
 //! What the goroutines of a run share, behind one lock: each turn of the lock makes at most one legal entry and one record.
 //!
 //! A `World` is what stands behind the lock: the run's `History` (the machine with its journal, the records of goroutine
-//! profiles, the sums of block and mutex events), the ring of samples, the book of its actors, and bodies for goroutines that
+//! profiles, the sums of block and mutex events), its end of the ring of samples, the book of its actors, and bodies for goroutines that
 //! aren't born yet. Whoever has the lock knows by its type that the journal is legal, and that all that is kept beside it are
 //! functions of the journal (`specs/kept/World.antt`). Where the bodies of live goroutines are is the caller's: `start`, `step`
 //! and `enter_record` take one on loan.
@@ -13,7 +13,7 @@
 //! | row of | first number | second |
 //! |---|---|---|
 //! | a worker | 0 nothing, 1 it has picked a goroutine, 2 it runs one, 3 the run was over as it looked for one | that goroutine |
-//! | the profiler | 0 between profiles, 1 within one, 2 it has finished | the last epoch given |
+//! | the profiler | 0 between profiles, 1 within one, 2 it has finished, 3 the reader has then taken in the ring's end | the last epoch given |
 //!
 //! The last two are always asked of the machine and never counted up, so a row is `row_of` the journal and its first two
 //! numbers.
@@ -48,12 +48,14 @@
 //! Had that profile been closed and the next one asked for before worker 1 came to start goroutine 1, `start` would have left
 //! `1, 2` waiting again, with row `(0, 0, 2, 30)`, and no entry.
 //!
-//! **The ring.** A Tick offers its goroutine's sample to the ring, as it stands in the state before; `read` takes from it what is
-//! unread. It stands behind the lock for now.
+//! **The ring** of samples is one between two threads. The world has the end that offers: a Tick offers its goroutine's sample, as it
+//! stands in the state before, so all offers are the samples of the journal. The reader's end is outside, and takes no lock. `shut`
+//! closes the world's end, and once the reader has found that, `settle` lets it take that end in: then it is known that its records
+//! cover the samples of the journal (`specs/RingEnds.antt`, `specs/kept/Ending.antt`).
 //!
 //! `specs/Scene.antt` is what a world is to its callers, `specs/Rows.antt` has the rows, `specs/Calls.antt` what the calls answer.
 //! Each call that makes an entry stands in `entries.rt` and carries all that is kept; `start` and `step` stand on those and touch
-//! nothing themselves. `new` takes memory, `read` does for the records, and `step` only where an Op leaves an event that is
+//! nothing themselves. `new` takes memory, and `step` only where an Op leaves an event that is
 //! added. Each call is meant to take constant time, but for the copy of a stack; no clause says so.
 #![tactic(auto)]
 
@@ -63,7 +65,7 @@ mod entries;
 mod making;
 mod pick;
 mod picking;
-mod reading;
+mod ring_end;
 mod starting;
 mod step;
 mod stepping;
@@ -71,5 +73,6 @@ mod world;
 
 pub use begun::Begun;
 pub use pick::Pick;
+pub use ring_end::RingEnd;
 pub use step::Step;
 pub use world::{Made, World, WorldParts};

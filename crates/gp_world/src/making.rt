@@ -4,14 +4,19 @@ ghost use Rattle.std.specs.List.{AllByRecursion};
 ghost use Rattle.gp_stack.specs.Body.{HasRoom};
 ghost use Rattle.gp_isa.specs.Limits.{most_cells};
 ghost use Rattle.gp_journal.specs.Settings.{AreInRange};
-ghost use Rattle.gp_samples.specs.RunRing.{begun_ring};
+ghost use Rattle.gp_cpu.specs.Samples.{rate_record};
+ghost use Rattle.gp_samples.specs.RunEnds.{AreOffers, IsBegunReader};
+ghost use Rattle.gp_world.specs.declared.ring_end.RingEnd.TheVariants.{Writing};
+ghost use Rattle.gp_world.specs.RingEnds.{IsOf, offers_of};
 ghost use Rattle.gp_world.specs.Rows.{blank, shares_of};
 
+use crate::ring_end::RingEnd;
 use crate::world::{Made, Numbers, World};
 use gp_history::History;
 use gp_isa::{Memory, Program};
 use gp_machine::{Queue, Run, Settings};
-use gp_samples::begun_ring;
+use gp_ring::Writer;
+use gp_samples::begun_ends;
 use gp_stack::Body;
 use gp_tally::{Book, Row, Share};
 use std::alloc::Global;
@@ -68,29 +73,31 @@ fn unborn(alloc: Global, program: &Program, count: u32) -> Result<Vec<Body>, Mem
 }
 
 impl<R: Run> World<R> {
-    // The world of a run as it begins, with a book in which each actor has a row.
+    // The world of a run as it begins, with a book in which each actor has a row, and a ring to which the rate record was offered.
     fn with_book(
         alloc: Global,
         program: &Program,
         settings: &Settings,
         book: Book,
+        writer: Writer,
     ) -> Result<World<R>, Memory>
         requires program { program.now ≡ R.program }
         requires settings { settings.now ≡ R.settings }
         requires range { AreInRange settings.now }
         requires rows { book.rows ≡ replicate (settings.now.workers + 1) blank }
+        requires writer { AreOffers program.now settings.now [] writer.ring writer.offers }
         ensures { IfOk result (λ world. world ≡ record {
           book = book.book;
           journal = [];
           waiting = 0 ∷ [];
-          ring = begun_ring R.program R.settings;
+          ring = Writing writer;
           failed = false;
         }) }
     {
         Ok(World {
             history: History::new(alloc, program, settings)?,
             waiting: first_waiting(alloc, settings.cells)?,
-            ring: begun_ring(alloc, program, settings)?,
+            ring: RingEnd::Writing(writer),
             book,
             unborn: unborn(alloc, program, settings.cells - 1)?,
             numbers: Numbers {
@@ -102,21 +109,28 @@ impl<R: Run> World<R> {
         })
     }
 
-    /// The world of a run as it begins, with a share for each worker and then for the profiler: no entry was made, goroutine 0
-    /// waits, and the rate record was offered to the ring. It takes the journal, the wait lists, the ring, the room for
-    /// records, and a body for each cell but goroutine 0's.
+    /// The world of a run as it begins, the reader's end of its ring, and a share for each worker and then for the profiler: no entry
+    /// was made, goroutine 0 waits, and the rate record was offered to the ring. It takes the journal, the wait lists, the ring, the
+    /// room for records, and a body for each cell but goroutine 0's.
     pub fn new(alloc: Global, program: &Program, settings: &Settings) -> Result<Made<R>, Memory>
         requires program { program.now ≡ R.program }
         requires settings { settings.now ≡ R.settings }
         requires range { AreInRange settings.now }
         ensures journal { IfOk result (λ made. made.world.journal ≡ []) }
         ensures waiting { IfOk result (λ made. made.world.waiting ≡ 0 ∷ []) }
-        ensures ring { IfOk result (λ made. made.world.ring ≡ begun_ring R.program R.settings) }
+        ensures ring { IfOk result (λ made. IsOf made.world.ring made.reader.ring) }
+        ensures offers { IfOk result (λ made. offers_of made.world.ring ≡ rate_record R.settings ∷ []) }
+        ensures reader { IfOk result (λ made. IsBegunReader R.program R.settings made.reader) }
         ensures failed { IfOk result (λ made. made.world.failed ≡ false) }
         ensures shares { IfOk result (λ made. made.shares.items ≡ shares_of made.world.book R.settings.workers) }
     {
         let Actors { book, shares } = issued(alloc, settings.workers)?;
-        let world = World::with_book(alloc, program, settings, book)?;
-        Ok(Made { world, shares })
+        let (writer, reader) = begun_ends(alloc, program, settings)?;
+        let world = World::with_book(alloc, program, settings, book, writer)?;
+        Ok(Made {
+            world,
+            reader,
+            shares,
+        })
     }
 }

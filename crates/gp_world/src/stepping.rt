@@ -13,10 +13,10 @@ ghost use Rattle.gp_journal.specs.Shown.{IsPeekAt, IsPointOf};
 ghost use Rattle.gp_journal.specs.State.{code_of, goroutine, worker};
 ghost use Rattle.gp_journal.specs.StepLaws.{joining};
 ghost use Rattle.gp_cpu.specs.Samples.{sampled_at};
-ghost use Rattle.gp_samples.specs.RunRing.{with_offers};
 ghost use Rattle.gp_world.specs.declared.step.Step.TheVariants as step;
 ghost use Rattle.gp_world.specs.Calls.{IsStep, WantsMemory, moved_by};
 ghost use Rattle.gp_world.specs.kept.Workers.{IsStepIn, after_due, moved_with, BearsIn, place_of_newborn};
+ghost use Rattle.gp_world.specs.RingEnds.{with_sampled};
 ghost use Rattle.gp_world.specs.Rows.{worker_row, runs_one};
 
 use crate::entries::Operated;
@@ -126,8 +126,8 @@ impl<R: Run> World<R> {
         requires worker { who.old.number < R.settings.workers }
         requires mine { who.old.row.a ≡ runs_one }
         requires may { May (code_of R.program) R.settings (state_of R.program R.settings self.old.journal) (entry.Run who.old.number g n) }
-        ensures answer { IsStepIn R.program R.settings self.old who.old.number g result }
-        ensures scene { self.new ≡ after_due R.program R.settings self.old (entry.Run who.old.number g n) }
+        ensures answer { IsStepIn R.program R.settings self.old self.new who.old.number g result }
+        ensures scene { self.new ≡ after_due R.program R.settings self.old self.new (entry.Run who.old.number g n) }
         ensures share { who.new ≡ record who.old { row = worker_row R.program R.settings self.new.journal who.old.number } }
     {
         let made = Entry::Run {
@@ -159,8 +159,8 @@ impl<R: Run> World<R> {
         requires stands { StandsIn R.program body.old }
         requires place { progress_of body.old ≡ standing (goroutine (state_of R.program R.settings self.old.journal) g) }
         requires point { IsPointOf (code_of R.program) (state_of R.program R.settings self.old.journal) g point }
-        ensures answer { IfOk result (IsStepIn R.program R.settings self.old who.old.number g) }
-        ensures scene { OnOk result (self.new ≡ after_due R.program R.settings self.old (entry.Op who.old.number g)) }
+        ensures answer { IfOk result (IsStepIn R.program R.settings self.old self.new who.old.number g) }
+        ensures scene { OnOk result (self.new ≡ after_due R.program R.settings self.old self.new (entry.Op who.old.number g)) }
         ensures share { OnOk result (who.new
             ≡ record who.old { row = worker_row R.program R.settings self.new.journal who.old.number }) }
         ensures moved { OnOk result (progress_of body.new
@@ -212,8 +212,8 @@ impl<R: Run> World<R> {
         requires runs { (worker (state_of R.program R.settings self.old.journal) who.old.number).runs ≡ Some g }
         requires stands { StandsIn R.program body.old }
         requires place { progress_of body.old ≡ standing (goroutine (state_of R.program R.settings self.old.journal) g) }
-        ensures answer { IfOk result (IsStepIn R.program R.settings self.old who.old.number g) }
-        ensures scene { OnOk result (self.new ≡ after_due R.program R.settings self.old
+        ensures answer { IfOk result (IsStepIn R.program R.settings self.old self.new who.old.number g) }
+        ensures scene { OnOk result (self.new ≡ after_due R.program R.settings self.old self.new
             (due (code_of R.program) R.settings (state_of R.program R.settings self.old.journal) who.old.number g)) }
         ensures share { OnOk result (who.new
             ≡ record who.old { row = worker_row R.program R.settings self.new.journal who.old.number }) }
@@ -263,14 +263,14 @@ impl<R: Run> World<R> {
         requires place { progress_of body.old
             ≡ standing (goroutine (state_of R.program R.settings self.old.journal) who.old.row.b) }
         ensures answer { IfOk result (IsStep R.program R.settings (state_of R.program R.settings self.old.journal) self.old.ring
-            who.old.number who.old.row.b) }
+            self.new.ring who.old.number who.old.row.b) }
         ensures scene { OnOk result (
             let state = state_of R.program R.settings self.old.journal in
             let made = due (code_of R.program) R.settings state who.old.number who.old.row.b in
             self.new ≡ record self.old {
               journal = self.old.journal ++ made ∷ [];
               waiting = self.old.waiting ++ joining made (applied (code_of R.program) R.settings state made);
-              ring = with_offers self.old.ring (sampled_at (code_of R.program) state made);
+              ring = with_sampled self.old.ring self.new.ring (sampled_at (code_of R.program) state made);
             }) }
         ensures share { OnOk result (who.new
             ≡ record who.old { row = worker_row R.program R.settings self.new.journal who.old.number }) }

@@ -1,4 +1,4 @@
-ghost use Rattle.std.specs.Prelude.{List, ◌≡◌, ◌≤◌, ◌-◌, [], true, get_or};
+ghost use Rattle.std.specs.Prelude.{◌≡◌, ◌≤◌, ◌-◌, [], true, get_or};
 ghost use Rattle.std.specs.Bool.{OnTrue, OnFalse};
 ghost use Rattle.gp_events.specs.Sums.{sums};
 ghost use Rattle.gp_history.specs.Events.{block_events, mutex_events};
@@ -7,30 +7,27 @@ ghost use Rattle.gp_journal.specs.Due.{IsComplete};
 ghost use Rattle.gp_journal.specs.Profiles.{records_of};
 ghost use Rattle.gp_journal.specs.Run.{IsLegal, state_of};
 ghost use Rattle.gp_journal.specs.State.{code_of, live, running};
-ghost use Rattle.gp_ring.specs.Follows.{Follows};
-ghost use Rattle.gp_ring.specs.Records.{RingRecord};
-ghost use Rattle.gp_cpu.specs.Samples.{samples_of_journal};
-ghost use Rattle.gp_samples.specs.RunRing.{IsReadable};
 ghost use Rattle.gp_world.specs.Calls.{live_at_open};
 
+use crate::ring_end::RingEnd;
 use gp_events::Buckets;
 use gp_history::{History, HistoryParts};
 use gp_machine::{Machine, Queue, Run};
-use gp_ring::Ring;
+use gp_ring::Reader;
 use gp_stack::{Body, Profiles, Record};
 use gp_tally::{Book, Share};
 use std::marker::Model;
 
 /// What the goroutines of a run share, behind its lock.
 ///
-/// Its value is the journal, with who waits for a worker, the ring of samples, which book the actors' shares are of, and whether
-/// somebody met want of memory. Whenever the lock is free the journal is legal.
+/// Its value is the journal, with who waits for a worker, its end of the ring of samples, which book the actors' shares are of, and
+/// whether somebody met want of memory. Whenever the lock is free the journal is legal.
 #[derive(Drop)]
 pub struct World<R: Run> {
     pub(crate) history: History<R>,
     // runnable goroutines that no worker has picked
     pub(crate) waiting: Queue,
-    pub(crate) ring: Ring,
+    pub(crate) ring: RingEnd,
     // a row for each actor
     pub(crate) book: Book,
     // bodies of those that aren't born yet
@@ -58,10 +55,12 @@ impl<R: Run> Model for World<R> {
     ghost invariant = { λ w. IsWorld R.program R.settings w.history w.waiting w.ring w.book.rows w.unborn.items w.numbers };
 }
 
-/// A world as it begins, and the share of each actor: the workers', and then the profiler's.
+/// A world as it begins, the reader's end of its ring of samples, and the share of each actor: the workers', and then the
+/// profiler's.
 #[derive(Drop)]
 pub struct Made<R: Run> {
     pub world: World<R>,
+    pub reader: Reader,
     pub shares: Vec<Share>,
 }
 
@@ -75,8 +74,6 @@ pub struct WorldParts<R: Run> {
     pub block: Buckets,
     /// The sums of the mutex events.
     pub mutex: Buckets,
-    /// The ring of samples.
-    pub ring: Ring,
 }
 
 impl<R: Run> World<R> {
@@ -167,18 +164,14 @@ impl<R: Run> World<R> {
         self.failed
     }
 
-    /// The machine, the records, the sums and the ring, which may be read. It takes no memory.
+    /// The machine, the records and the sums. It takes no memory.
     pub fn into_parts(self) -> WorldParts<R>
         ensures machine { result.machine ≡ self.journal }
         ensures records { result.records ≡ records_of (code_of R.program) R.settings self.journal }
         ensures block { result.block ≡ sums (block_events (code_of R.program) R.settings self.journal) }
         ensures mutex { result.mutex ≡ sums (mutex_events (code_of R.program) R.settings self.journal) }
-        ensures ring { result.ring ≡ self.ring }
-        ensures readable { IsReadable self.ring }
-        ensures follows { (taken : List RingRecord)
-            × Follows (samples_of_journal (code_of R.program) R.settings self.journal) taken self.ring }
     {
-        let World { history, ring, .. } = self;
+        let World { history, .. } = self;
         let HistoryParts {
             machine,
             records,
@@ -190,7 +183,6 @@ impl<R: Run> World<R> {
             records,
             block,
             mutex,
-            ring,
         }
     }
 }

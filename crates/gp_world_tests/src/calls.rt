@@ -1,7 +1,9 @@
 //! Calls on a world. One that isn't for that actor now isn't made.
-ghost use Rattle.std.specs.Prelude.{◌≡◌, ◌<◌, true, IfOk};
+ghost use Rattle.std.specs.Prelude.{◌≡◌, ◌↔◌, ◌<◌, true, IfOk, IsTrue};
 ghost use Rattle.std.specs.Bool.{OnTrue};
 ghost use Rattle.gp_journal.specs.State as state;
+ghost use Rattle.gp_ring.specs.PlainRing.{End};
+ghost use Rattle.gp_world.specs.RingEnds.{IsOf};
 ghost use Rattle.gp_world.specs.Rows.{MayRecordAs};
 ghost use Rattle.gp_world_tests.specs.Playing.{Keeps};
 
@@ -10,6 +12,7 @@ use gp_cases::{Unanswered, number_32, word};
 use gp_isa::Program;
 use gp_machine::{Goroutine, Run, Settings, Status};
 use gp_profiler::{Closing, Opening, Recording, close_profile, finish, open_profile, record_one};
+use gp_ring::{Reader, Taken};
 use gp_tally::{Row, Share};
 use gp_world::{Begun, Pick, Step, World};
 use std::alloc::Global;
@@ -35,6 +38,7 @@ pub enum Answer {
     Recording(Recording),
     Closing(Closing),
     Finished,
+    Settled,
     /// The actor has this row.
     Checked(Row),
     /// It has this goroutine.
@@ -172,11 +176,41 @@ fn end<R: Run>(settings: &Settings, world: &mut World<R>, who: &mut Share) -> An
     requires book { who.old.book ≡ world.old.book }
     ensures kept { Keeps world.old world.new who.old who.new }
 {
-    if who.number() != settings.workers || who.row().a == HAS_FINISHED || !world.complete() {
+    if who.number() != settings.workers || who.row().a >= HAS_FINISHED || !world.complete() {
         return Answer::NotNow;
     }
     finish(world, who);
     Answer::Finished
+}
+
+// Whether the reader's last answer was the end.
+fn is_over(reader: &Reader) -> bool
+    ensures { IsTrue result ↔ (reader.now.hand ≡ End) }
+{
+    match reader.shown() {
+        Taken::End => true,
+        _ => false,
+    }
+}
+
+// The reader takes in the ring's end, by the profiler's share.
+fn settle<R: Run>(
+    settings: &Settings,
+    world: &mut World<R>,
+    reader: &mut Reader,
+    who: &mut Share,
+) -> Answer
+    requires settings { settings.now ≡ R.settings }
+    requires book { who.old.book ≡ world.old.book }
+    requires ring { IsOf world.old.ring reader.old.ring }
+    ensures kept { Keeps world.old world.new who.old who.new }
+    ensures reader { reader.new.ring ≡ reader.old.ring }
+{
+    if who.number() != settings.workers || who.row().a != HAS_FINISHED || !is_over(reader) {
+        return Answer::NotNow;
+    }
+    world.settle(who, reader);
+    Answer::Settled
 }
 
 fn check<R: Run>(world: &mut World<R>, who: &mut Share) -> Answer
@@ -206,13 +240,16 @@ pub fn call<R: Run>(
     program: &Program,
     settings: &Settings,
     world: &mut World<R>,
+    reader: &mut Reader,
     who: &mut Share,
     name: &str,
 ) -> Result<Answer, Unanswered>
     requires program { program.now ≡ R.program }
     requires settings { settings.now ≡ R.settings }
     requires book { who.old.book ≡ world.old.book }
+    requires ring { IsOf world.old.ring reader.old.ring }
     ensures kept { Keeps world.old world.new who.old who.new }
+    ensures reader { reader.new.ring ≡ reader.old.ring }
 {
     let (name, rest) = word(name);
     match name {
@@ -224,6 +261,7 @@ pub fn call<R: Run>(
         "open" => Ok(open(settings, world, who)),
         "close" => Ok(close(settings, world, who)),
         "finish" => Ok(end(settings, world, who)),
+        "settle" => Ok(settle(settings, world, reader, who)),
         "whom" => Ok(whom(settings, world, who)),
         "check" => Ok(check(world, who)),
         _ => Err(Unanswered::Form),

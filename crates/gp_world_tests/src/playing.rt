@@ -8,29 +8,31 @@ use gp_cases::{Page, Unanswered, number_32, word};
 use gp_cpu::Collector;
 use gp_isa::Program;
 use gp_machine::{Run, Settings};
+use gp_ring::Reader;
+use gp_samples::take;
 use gp_tally::Share;
 use gp_world::World;
 use std::alloc::Global;
 use std::marker::Model;
 
-/// A world, the shares of its actors, and the records that were read of its ring.
+/// A world, the reader of its ring, the shares of its actors, and the records that were read.
 #[derive(Drop)]
 pub struct Play<R: Run> {
     world: World<R>,
+    reader: Reader,
     shares: Vec<Share>,
     cpu: Collector,
 }
 
 impl<R: Run> Model for Play<R> {
-    ghost use Rattle.std.specs.List.{AllByRecursion};
     ghost use Rattle.gp_world.specs.Scene.{Scene};
-    ghost use Rattle.gp_world_tests.specs.Playing.{IsOf};
+    ghost use Rattle.gp_world_tests.specs.Playing.{IsPlay};
 
     ghost Value = { Scene };
 
     ghost view = { λ p. p.world };
 
-    ghost invariant = { λ p. AllByRecursion (IsOf p.world.book) p.shares.items };
+    ghost invariant = { λ p. IsPlay p.world p.reader p.shares.items };
 }
 
 impl<R: Run> Play<R> {
@@ -44,6 +46,7 @@ impl<R: Run> Play<R> {
         let made = World::<R>::new(alloc, program, settings)?;
         Ok(Play {
             world: made.world,
+            reader: made.reader,
             shares: made.shares,
             cpu,
         })
@@ -65,16 +68,29 @@ impl<R: Run> Play<R> {
         if at >= self.shares.len() {
             return Err(Unanswered::Form);
         }
-        let Play { world, shares, .. } = self;
-        let answer = call(alloc, program, settings, world, &mut shares[at], name)?;
+        let Play {
+            world,
+            reader,
+            shares,
+            ..
+        } = self;
+        let answer = call(
+            alloc,
+            program,
+            settings,
+            world,
+            reader,
+            &mut shares[at],
+            name,
+        )?;
         telling::tell(page, &answer)?;
         Ok(())
     }
 
     fn read(&mut self, alloc: Global, page: &mut Page) -> Result<(), Unanswered> {
         let before = self.cpu.records().len();
-        let more = self.world.read(alloc, &mut self.cpu)?;
-        telling::tell_read(page, more, self.cpu.records(), before)?;
+        let took = take(alloc, &mut self.reader, &mut self.cpu)?;
+        telling::tell_read(page, took, self.cpu.records(), before)?;
         Ok(())
     }
 

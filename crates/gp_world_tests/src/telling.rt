@@ -5,6 +5,7 @@ use gp_cpu::{CpuRecord, CpuRecords};
 use gp_events::Buckets;
 use gp_isa::Program;
 use gp_machine::Run;
+use gp_samples::Took;
 use gp_stack::Stack;
 use gp_world::{Begun, Step, World};
 use std::alloc::{AllocError, Global};
@@ -59,6 +60,7 @@ pub fn tell(page: &mut Page, answer: &Answer) -> Result<(), AllocError> {
         Answer::Recording(it) => page.debug("\n", it),
         Answer::Closing(it) => page.debug("\n", it),
         Answer::Finished => page.line("finished"),
+        Answer::Settled => page.line("settled"),
         Answer::Checked(row) => {
             page.number("\n", row.a)?;
             page.number(" ", row.b)?;
@@ -172,11 +174,15 @@ fn tell_record(page: &mut Page, record: &CpuRecord) -> Result<(), AllocError> {
 /// a sample its time, label set, header and leaf.
 pub fn tell_read(
     page: &mut Page,
-    more: bool,
+    took: Took,
     records: &CpuRecords,
     before: usize,
 ) -> Result<(), AllocError> {
-    page.text(if more { "\nmore to come" } else { "\nthe end" })?;
+    page.text(match took {
+        Took::End => "\nthe end",
+        Took::Records => "\nmore to come",
+        Took::Nothing => "\nmore to come",
+    })?;
     for record in records.iter().skip(before) {
         tell_record(page, record)?;
     }

@@ -80,8 +80,13 @@ pub record AreNumbers (course : Course) (desk : Desk) (flow : ℕ) : Type 0 wher
   pub quiet : 0 < course.pending → IsQuiet course.owed desk
   pub ended : course.ended ≡ true → IsQuiet course.owed desk
 
+-- no more than another overflow word, by change number and then by count
+pub record IsEarlier (before now : ℕ) : Type 0 where
+  pub change : change_of before ≤ change_of now
+  pub count : change_of before ≡ change_of now → count_of before ≤ count_of now
+
 -- The writer knows what was offered and written and what it stored; the `r` that it loaded last is no more than the present one;
--- and overflow is as it knows it, unless the reader took its loss since.
+-- and overflow is as it knows it, unless the reader took its loss since, and no earlier than any that it found.
 pub record IsWriterIn (course : Course) (desk : Desk) (flow : ℕ) (writer : WriterView) : Type 0 where
   pub offers : writer.offers ≡ course.offers
   pub kept : writer.kept ≡ kept_of course
@@ -93,13 +98,9 @@ pub record IsWriterIn (course : Course) (desk : Desk) (flow : ℕ) (writer : Wri
   pub owed : writer.owed ≡ course.owed
   pub closed : writer.closed ≡ course.ended
   pub flow_is : (flow ≡ writer.flow) ⊎ IsLifted writer.flow flow
+  pub earlier : IsEarlier writer.overflow flow × IsEarlier writer.found flow
   pub read_words : words_of writer.read ≤ words_pulled course
   pub read_tags : tags_of writer.read ≤ length course.pulled
-
--- no more than another overflow word, by change number and then by count
-pub record IsEarlier (before now : ℕ) : Type 0 where
-  pub change : change_of before ≤ change_of now
-  pub count : change_of before ≡ change_of now → count_of before ≤ count_of now
 
 -- the overflow word with a loss, as it was looked at, still stands
 pub record IsStanding (flow overflow : ℕ) : Type 0 where
@@ -116,6 +117,7 @@ pub record IsReaderIn (course : Course) (flow : ℕ) (reader : ReaderView) : Typ
   pub due : (front : List (ℕ × ℕ)) × (front ++ reader.due ≡ all_laid course.len (words_pulled course) reader.ahead)
   pub due_labels : (front : List (ℕ × ℕ)) × (front ++ reader.due_labels ≡ labels_from (length course.pulled) reader.ahead)
   pub earlier : IsEarlier reader.overflow flow
+  pub found_earlier : IsEarlier reader.found flow
   pub seen : IsStanding flow reader.overflow → reader.has_seen ≡ true → reader.ahead ≡ course.unread
   pub timed : IsStanding flow reader.overflow → reader.is_timed ≡ true → reader.time ≡ course.since
   pub end_found : reader.end ≡ 1 → course.ended ≡ true

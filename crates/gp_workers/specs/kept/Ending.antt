@@ -1,19 +1,11 @@
 -- What actors did, by their numbers.
-use Rattle.std.specs.Prelude.{◌+◌, ℕ, List, nat_lt}
-use Rattle.std.specs.List.{filter}
+use Rattle.std.specs.Prelude.{ℕ, List}
 use Rattle.gp_isa.specs.declared.parts.Parts.{Parts}
 use Rattle.gp_journal.specs.declared.entry.Entry.{Entry}
 use Rattle.gp_journal.specs.declared.settings.Settings.{Settings}
 use Rattle.gp_journal.specs.Actors.{made_by}
 use Rattle.gp_journal.specs.Run.{state_of}
 use Rattle.gp_journal.specs.State.{worker}
-
--- those of some numbers that are workers, and those that make entries: the workers and the profiler
-abbrev pub workers_of : Settings → List ℕ → List ℕ
-workers_of settings numbers = filter (λ n. nat_lt n settings.workers) numbers
-
-abbrev pub writers_of : Settings → List ℕ → List ℕ
-writers_of settings numbers = filter (λ n. nat_lt n (settings.workers + 1)) numbers
 
 -- the instructions of a worker, and the entries of an actor
 abbrev pub done_in : Parts → Settings → List Entry → ℕ → ℕ

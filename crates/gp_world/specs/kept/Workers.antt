@@ -13,10 +13,10 @@ use Rattle.gp_journal.specs.Run.{state_of}
 use Rattle.gp_journal.specs.State.{code_of, goroutine, is_idle}
 use Rattle.gp_journal.specs.StepLaws.{joining}
 use Rattle.gp_cpu.specs.Samples.{sampled_at}
-use Rattle.gp_samples.specs.RunRing.{with_offers}
 use Rattle.gp_tally.specs.declared.row.Row.{Row}
 use Rattle.gp_world.specs.declared.step.Step.{Step}
 use Rattle.gp_world.specs.Calls.{IsStep, moved_by}
+use Rattle.gp_world.specs.RingEnds.{with_sampled}
 use Rattle.gp_world.specs.Rows.{has_picked, row_of}
 use Rattle.gp_world.specs.Scene.{Scene}
 
@@ -26,17 +26,18 @@ pub record HasPicked (program : Parts) (settings : Settings) (journal : List Ent
   pub idle : is_idle (state_of program settings journal) w ≡ true
   pub runnable : (goroutine (state_of program settings journal) g).status ≡ Runnable
 
--- A scene after an entry that is due.
-abbrev pub after_due : Parts → Settings → Scene → Entry → Scene
-after_due program settings scene made = record scene {
+-- A scene after an entry that is due; what a sample's write loaded and found is told by the next one.
+abbrev pub after_due : Parts → Settings → (scene next : Scene) → Entry → Scene
+after_due program settings scene next made = record scene {
   journal = scene.journal ++ made ∷ [];
   waiting = scene.waiting ++ joining made (applied (code_of program) settings (state_of program settings scene.journal) made);
-  ring = with_offers scene.ring (sampled_at (code_of program) (state_of program settings scene.journal) made);
+  ring = with_sampled scene.ring next.ring (sampled_at (code_of program) (state_of program settings scene.journal) made);
 }
 
--- What a step of g on w answers, in a scene.
-abbrev pub IsStepIn : Parts → Settings → Scene → ℕ → ℕ → Step → Type 0
-IsStepIn program settings scene w g it = IsStep program settings (state_of program settings scene.journal) scene.ring w g it
+-- What a step of g on w answers, in a scene, with the next one.
+abbrev pub IsStepIn : Parts → Settings → (scene next : Scene) → ℕ → ℕ → Step → Type 0
+IsStepIn program settings scene next w g it =
+    IsStep program settings (state_of program settings scene.journal) scene.ring next.ring w g it
 
 -- Where a body stands behind an entry.
 abbrev pub moved_with : Parts → Settings → Scene → Entry → Progress → Progress

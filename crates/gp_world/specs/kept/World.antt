@@ -1,5 +1,5 @@
 -- What a world keeps whenever its lock is free.
-use Rattle.std.specs.Prelude.{◌≡◌, ◌+◌, ◌<◌, ◌≤◌, ◌⊎◌, ◌==◌, ℕ, zero, suc, Bool, ◌&&◌, List, length, get_or, if◌then◌else◌}
+use Rattle.std.specs.Prelude.{◌≡◌, ◌+◌, ◌<◌, ◌≤◌, ◌⊎◌, ◌==◌, ℕ, zero, suc, ◌&&◌, List, length, get_or, if◌then◌else◌}
 use Rattle.std.specs.List.{AllByRecursion}
 use Rattle.gp_isa.specs.declared.parts.Parts.{Parts}
 use Rattle.gp_stack.specs.Body.{HasRoom}
@@ -12,15 +12,11 @@ use Rattle.gp_journal.specs.Settings.{AreInRange}
 use Rattle.gp_journal.specs.Standing.{times}
 use Rattle.gp_journal.specs.State.{State, code_of, worker, births}
 use Rattle.gp_machine.specs.Queue.{Line}
-use Rattle.gp_ring.specs.Follows.{Follows}
-use Rattle.gp_ring.specs.PlainRing.{PlainRing}
-use Rattle.gp_ring.specs.Records.{RingRecord}
-use Rattle.gp_cpu.specs.BatchLaw.{IsWhole}
-use Rattle.gp_cpu.specs.Samples.{samples_of_journal}
-use Rattle.gp_samples.specs.RunRing.{ring_len, ring_tags}
 use Rattle.gp_tally.specs.declared.row.Row.{Row}
 use Rattle.gp_world.specs.Calls.{live_at_open}
+use Rattle.gp_world.specs.declared.ring_end.RingEnd.{RingEnd}
 use Rattle.gp_world.specs.declared.world.Numbers.{Numbers}
+use Rattle.gp_world.specs.kept.Ending.{IsEnd}
 use Rattle.gp_world.specs.Rows.{blank, row_of, has_picked, between_profiles, within_profile, has_finished, on_of}
 
 -- how often g is picked, by a row and by the first n rows
@@ -35,17 +31,7 @@ picks rows (suc n) g = picks rows n g + picks_by (get_or rows n blank) g
 pub record TellsProfiles (settings : Settings) (state : State) (row : Row) : Type 0 where
   pub epoch : row.b ≡ state.last_epoch
   pub is_one : ((row.a ≡ between_profiles) × (state.active ≡ 0))
-      ⊎ (((row.a ≡ within_profile) × (0 < state.active)) ⊎ ((row.a ≡ has_finished) × IsComplete settings state))
-
--- The ring is the run's: it follows the samples of the journal and what was taken from it, which its words don't tell.
-pub record IsRingOf (program : Parts) (settings : Settings) (journal : List Entry) (ended : Bool) (ring : PlainRing) : Type 0 where
-  pub taken : List RingRecord
-  pub header : ring.hdrsize ≡ 1
-  pub words : ring.len ≡ ring_len program settings
-  pub tags : ring.tags ≡ ring_tags settings
-  pub follows : Follows (samples_of_journal (code_of program) settings journal) taken ring
-  pub whole : AllByRecursion IsWhole ring.unread
-  pub is_ended : ring.ended ≡ ended
+      ⊎ (((row.a ≡ within_profile) × (0 < state.active)) ⊎ ((has_finished ≤ row.a) × IsComplete settings state))
 
 -- The book's rows are the actors': what each did is the journal's, whom a worker runs is the state's, and who waits and whom
 -- workers have picked are together who stands in the queue, each as often as there.
@@ -68,13 +54,13 @@ pub record AreNumbers (program : Parts) (settings : Settings) (journal : List En
   pub its_room : numbers.room ≡ settings.room
   pub its_expected : numbers.expected ≡ live_at_open (code_of program) settings journal
 
--- All of it. Whether the ring has ended is told by the profiler's row.
-pub record IsWorld (program : Parts) (settings : Settings) (journal : List Entry) (line : Line) (ring : PlainRing) (rows : List Row)
+-- All of it. Which end of the ring the world has is told by the profiler's row.
+pub record IsWorld (program : Parts) (settings : Settings) (journal : List Entry) (line : Line) (ring : RingEnd) (rows : List Row)
     (unborn : List Body) (numbers : Numbers) : Type 0 where
   pub in_range : AreInRange settings
   pub legal : IsLegal (code_of program) settings journal
   pub its_cells : line.cells ≡ settings.cells
   pub its_rows : AreRows program settings journal line.items rows
-  pub its_ring : IsRingOf program settings journal ((get_or rows settings.workers blank).a == has_finished) ring
+  pub its_ring : IsEnd program settings journal (get_or rows settings.workers blank).a ring
   pub its_unborn : AreUnborn program settings journal unborn
   pub its_numbers : AreNumbers program settings journal numbers

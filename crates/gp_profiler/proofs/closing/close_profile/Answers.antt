@@ -1,6 +1,6 @@
-use Rattle.std.proofs.Common.{◌≡◌, ◌+◌, length, refl, ap, ◌∙◌, arith}
+use Rattle.std.proofs.Common.{refl, ap, ◌∙◌, arith}
 use Rattle.gp_journal.specs.Run.{state_of}
-use Rattle.gp_journal.specs.State.{code_of, unrecorded}
+use Rattle.gp_journal.specs.State.{code_of}
 use Rattle.gp_profiler.proofs.AddUp.{told_add_up}
 use Rattle.gp_profiler.proofs.closing.close_profile.Goals as goal
 

@@ -1,4 +1,4 @@
-use Rattle.std.proofs.Common.{◌≡◌, sym, subst, ap, ◌∙◌}
+use Rattle.std.proofs.Common.{sym, subst, ap, ◌∙◌}
 use Rattle.gp_journal.specs.May.{MayRecord}
 use Rattle.gp_journal.specs.Run.{state_of}
 use Rattle.gp_journal.specs.State.{code_of, goroutine}

@@ -1,7 +1,6 @@
-use Rattle.std.proofs.Common.{subst}
-use Rattle.gp_journal.specs.Due.{IsComplete}
-use Rattle.gp_journal.specs.Run.{state_of}
-use Rattle.gp_workers.proofs.ProfilerKeeps.{closed_keeps}
+use Rattle.std.proofs.Common.{ap}
+use Rattle.gp_world.specs.Scene.{Scene}
+use Rattle.gp_world.proofs.RingEnds.{shut_is_of}
 use Rattle.gp_workers.proofs.profiling.profile_on.Goals as goal
 
 pub returns-then-asked-clause-fit : goal.returns-then-asked-clause-fit
@@ -9,5 +8,5 @@ returns-then-asked-clause-fit g c = c.open.ensures.world.still_fit c.args.bodies
 
 pub returns-then-complete-clause-world : goal.returns-then-complete-clause-world
 returns-then-complete-clause-world g c =
-    closed_keeps g.R.Run.program g.R.Run.settings c.args.world.now c.finish.new.world c.finish.ensures.scene
-    (subst (λ j. IsComplete g.R.Run.settings (state_of g.R.Run.program g.R.Run.settings j)) c.machine-machine.ensures.journal c.if-complete.ensures.complete)
+    let old = c.args.world.now in let new = c.finish.new.world in let scene = c.finish.ensures.scene in
+    record { same_book = ap (λ (s : Scene). s.book) scene; still_of = shut_is_of old.ring new.ring (ap (λ (s : Scene). s.ring) scene) }

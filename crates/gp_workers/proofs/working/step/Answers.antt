@@ -4,8 +4,9 @@ use Rattle.gp_journal.specs.Due.{due}
 use Rattle.gp_journal.specs.Run.{state_of}
 use Rattle.gp_journal.specs.State.{code_of}
 use Rattle.gp_world.specs.Scene.{Scene}
+use Rattle.gp_world.proofs.RingEnds.{offered_of}
 use Rattle.gp_workers.specs.kept.Following.{CanFollow}
-use Rattle.gp_workers.proofs.Following.{body_stands, able, still_fit, keeps}
+use Rattle.gp_workers.proofs.Following.{body_stands, able, still_fit}
 use Rattle.gp_workers.proofs.Turns.{none_made, one_made}
 use Rattle.gp_workers.proofs.working.step.Goals as goal
 
@@ -29,10 +30,8 @@ returns-clause-fit g c =
 
 pub returns-clause-world : goal.returns-clause-world
 returns-clause-world g c =
-    let who = c.args.who.now in let scene = c.in_ok-step.ensures.scene in let items = c.args.bodies.now.items in
-    keeps g.R.Run.program g.R.Run.settings c.args.world.now c.step.new.self who.number who.row.b c.args.g c.args.bodies.now.cap c.requires.g items c.index_mut.result.now c.step.new.body c.in_ok-step.step c.requires.fit
-    c.machine.ensures.legal c.machine-2.ensures.legal c.requires.live c.index_mut.ensures.value c.in_ok-step.ensures.answer (ap (λ (s : Scene). s.journal) scene) c.in_ok-step.ensures.moved
-    (ap (λ (s : Scene). s.book) scene) (ap (λ (s : Scene). s.ring) scene) (ap (λ (s : Scene). s.failed) scene)
+    let old = c.args.world.now in let new = c.step.new.self in let scene = c.in_ok-step.ensures.scene in
+    record { same_book = ap (λ (s : Scene). s.book) scene; still_of = offered_of old.ring new.ring _ (ap (λ (s : Scene). s.ring) scene) }
 
 pub returns-clause-entries : goal.returns-clause-entries
 returns-clause-entries g c =

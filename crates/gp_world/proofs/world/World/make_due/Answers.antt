@@ -83,7 +83,7 @@ returns-in-Run-clause-scene g c =
     let P = g.R.Run.program in let S = g.R.Run.settings in let now = c.args.self.now in let w = c.args.who.now.number in let s = state_of P S now.journal in
     let is = due_told P S c.machine.result.now now.journal c.number.result w c.args.g c.due-made.result c.due-made.ensures (c.machine.ensures ∙ ap (λ (x : Scene). x.journal) c.self.view_is) c.number.ensures c.requires.runs in
     let next = due_run (code_of P) S s w c.args.g c.due-made.result is c.in-Run.w c.in-Run.g c.in-Run.n c.in-Run.is in
-    c.run.ensures.scene ∙ ap (after_due P S now) (sym next)
+    c.run.ensures.scene ∙ ap (after_due P S now c.run.new.self) (sym next)
 
 pub returns-in-Run-clause-moved : goal.returns-in-Run-clause-moved
 returns-in-Run-clause-moved g c =
@@ -97,7 +97,7 @@ returns-in-Op-clause-scene g c =
     let P = g.R.Run.program in let S = g.R.Run.settings in let now = c.args.self.now in let w = c.args.who.now.number in let s = state_of P S now.journal in
     let is = due_told P S c.machine.result.now now.journal c.number.result w c.args.g c.due-made.result c.due-made.ensures (c.machine.ensures ∙ ap (λ (x : Scene). x.journal) c.self.view_is) c.number.ensures c.requires.runs in
     let next = due_op (code_of P) S s w c.args.g c.due-made.result is c.in-Op.w c.in-Op.g c.in-Op.is in
-    subst (λ (e : Entry). OnOk c.operate.result (c.operate.new.self ≡ after_due P S now e)) (sym next) c.operate.ensures.scene
+    subst (λ (e : Entry). OnOk c.operate.result (c.operate.new.self ≡ after_due P S now c.operate.new.self e)) (sym next) c.operate.ensures.scene
 
 pub returns-in-Op-clause-moved : goal.returns-in-Op-clause-moved
 returns-in-Op-clause-moved g c =
@@ -125,7 +125,7 @@ returns-in-Tick-clause-scene g c =
     let P = g.R.Run.program in let S = g.R.Run.settings in let now = c.args.self.now in let w = c.args.who.now.number in let s = state_of P S now.journal in
     let is = due_told P S c.machine.result.now now.journal c.number.result w c.args.g c.due-made.result c.due-made.ensures (c.machine.ensures ∙ ap (λ (x : Scene). x.journal) c.self.view_is) c.number.ensures c.requires.runs in
     let next = due_tick (code_of P) S s w c.args.g c.due-made.result is c.in-Tick.w c.in-Tick.g c.in-Tick.is in
-    c.enter_tick.ensures.scene ∙ tick_scene P S now w c.args.g ∙ ap (after_due P S now) (sym next)
+    c.enter_tick.ensures.scene ∙ tick_scene P S now c.enter_tick.new.self w c.args.g ∙ ap (after_due P S now c.enter_tick.new.self) (sym next)
 
 pub returns-in-Tick-clause-moved : goal.returns-in-Tick-clause-moved
 returns-in-Tick-clause-moved g c =
@@ -146,7 +146,7 @@ returns-in-Park-clause-scene g c =
     let P = g.R.Run.program in let S = g.R.Run.settings in let now = c.args.self.now in let w = c.args.who.now.number in let s = state_of P S now.journal in
     let is = due_told P S c.machine.result.now now.journal c.number.result w c.args.g c.due-made.result c.due-made.ensures (c.machine.ensures ∙ ap (λ (x : Scene). x.journal) c.self.view_is) c.number.ensures c.requires.runs in
     let next = due_park (code_of P) S s w c.args.g c.due-made.result is c.in-Park.w c.in-Park.g c.in-Park.is in
-    c.enter.ensures.scene ∙ ap (λ n. after_due P S now (entry.Park n c.args.g)) c.number-in-Park.ensures ∙ ap (after_due P S now) (sym next)
+    c.enter.ensures.scene ∙ ap (λ n. after_due P S now c.enter.new.self (entry.Park n c.args.g)) c.number-in-Park.ensures ∙ ap (after_due P S now c.enter.new.self) (sym next)
 
 pub returns-in-Park-clause-moved : goal.returns-in-Park-clause-moved
 returns-in-Park-clause-moved g c =

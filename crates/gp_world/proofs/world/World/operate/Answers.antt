@@ -97,16 +97,16 @@ returns-clause-answer g c =
     let told = sym c.in_ok-answer.ensures.answer in
     elim c.match-answer.branch [
       | in-Passed+in-Some-1 arm ↦
-          subst (λ r. IfOk r (IsStepIn P S now w h)) (sym arm.result-is)
-          (subst (IsStepIn P S now w h) (sym arm.passed.ensures) (passed_step P S s now.ring w h arm.in-Passed.woke arm.in-Passed.event arm.in-Passed.died due (told ∙ arm.in-Passed.is)))
+          subst (λ r. IfOk r (IsStepIn P S now c.enter_op.new.self w h)) (sym arm.result-is)
+          (subst (IsStepIn P S now c.enter_op.new.self w h) (sym arm.passed.ensures) (passed_step P S s now.ring c.enter_op.new.self.ring w h arm.in-Passed.woke arm.in-Passed.event arm.in-Passed.died due (told ∙ arm.in-Passed.is)))
       | in-Passed+in-None-1 arm ↦
-          subst (λ r. IfOk r (IsStepIn P S now w h)) (sym arm.result-is)
-          (subst (IsStepIn P S now w h) (sym arm.passed.ensures) (passed_step P S s now.ring w h arm.in-Passed.woke arm.in-Passed.event arm.in-Passed.died due (told ∙ arm.in-Passed.is)))
+          subst (λ r. IfOk r (IsStepIn P S now c.enter_op.new.self w h)) (sym arm.result-is)
+          (subst (IsStepIn P S now c.enter_op.new.self w h) (sym arm.passed.ensures) (passed_step P S s now.ring c.enter_op.new.self.ring w h arm.in-Passed.woke arm.in-Passed.event arm.in-Passed.died due (told ∙ arm.in-Passed.is)))
       | in-Born arm ↦
           let born : op_answer (code_of P) S h s ≡ answer.Born arm.in-Born.g arm.in-Born.died = told ∙ arm.in-Born.is in
           let st : state_of P S arm.machine.result.now ≡ after (code_of P) S s (entry.Op w h) =
           ap (state_of P S) (arm.machine.ensures ∙ ap (λ (x : Scene). x.journal) c.self-2.view_is ∙ ap (λ (x : Scene). x.journal) c.in_ok-answer.ensures.scene) ∙ entered P S now.journal (entry.Op w h) in
-          subst (λ r. IfOk r (IsStepIn P S now w h)) (sym arm.result-is) (
+          subst (λ r. IfOk r (IsStepIn P S now c.enter_op.new.self w h)) (sym arm.result-is) (
             due,
             (
               born,
@@ -119,10 +119,10 @@ returns-clause-answer g c =
               ),
             ),
           )
-      | in-Blocked+in-Some-1 arm ↦ subst (λ r. IfOk r (IsStepIn P S now w h)) (sym arm.result-is) (due, told ∙ arm.in-Blocked.is)
-      | in-Blocked+in-None-1 arm ↦ subst (λ r. IfOk r (IsStepIn P S now w h)) (sym arm.result-is) (due, told ∙ arm.in-Blocked.is)
-      | in-Fault+in-Some-1 arm ↦ subst (λ r. IfOk r (IsStepIn P S now w h)) (sym arm.result-is) (due, told ∙ arm.in-Fault.is)
-      | in-Fault+in-None-1 arm ↦ subst (λ r. IfOk r (IsStepIn P S now w h)) (sym arm.result-is) (due, told ∙ arm.in-Fault.is)
+      | in-Blocked+in-Some-1 arm ↦ subst (λ r. IfOk r (IsStepIn P S now c.enter_op.new.self w h)) (sym arm.result-is) (due, told ∙ arm.in-Blocked.is)
+      | in-Blocked+in-None-1 arm ↦ subst (λ r. IfOk r (IsStepIn P S now c.enter_op.new.self w h)) (sym arm.result-is) (due, told ∙ arm.in-Blocked.is)
+      | in-Fault+in-Some-1 arm ↦ subst (λ r. IfOk r (IsStepIn P S now c.enter_op.new.self w h)) (sym arm.result-is) (due, told ∙ arm.in-Fault.is)
+      | in-Fault+in-None-1 arm ↦ subst (λ r. IfOk r (IsStepIn P S now c.enter_op.new.self w h)) (sym arm.result-is) (due, told ∙ arm.in-Fault.is)
     ]
 
 pub returns-clause-still_stands : goal.returns-clause-still_stands

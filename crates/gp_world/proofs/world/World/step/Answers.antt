@@ -25,16 +25,16 @@ make_due-requires-clause-place g c =
 pub returns-clause-answer : goal.returns-clause-answer
 returns-clause-answer g c =
     let P = g.R.Run.program in let S = g.R.Run.settings in let now = c.run_by-g in
-    subst (λ n. IfOk c.make_due.result (IsStepIn P S c.args.self.now c.args.who.now.number n)) now.ensures.g
-    (subst (λ (p : Part). IfOk c.make_due.result (IsStepIn P S c.args.self.now p.number now.result)) now.ensures.share
-    (subst (λ (s : Scene). IfOk c.make_due.result (IsStepIn P S s now.new.who.number now.result)) now.ensures.scene c.make_due.ensures.answer))
+    subst (λ n. IfOk c.make_due.result (IsStepIn P S c.args.self.now c.make_due.new.self c.args.who.now.number n)) now.ensures.g
+    (subst (λ (p : Part). IfOk c.make_due.result (IsStepIn P S c.args.self.now c.make_due.new.self p.number now.result)) now.ensures.share
+    (subst (λ (s : Scene). IfOk c.make_due.result (IsStepIn P S s c.make_due.new.self now.new.who.number now.result)) now.ensures.scene c.make_due.ensures.answer))
 
 pub returns-clause-scene : goal.returns-clause-scene
 returns-clause-scene g c =
     let P = g.R.Run.program in let S = g.R.Run.settings in let now = c.run_by-g in
-    subst (λ n. OnOk c.make_due.result (c.make_due.new.self ≡ after_due P S c.args.self.now (due (code_of P) S (state_of P S c.args.self.now.journal) c.args.who.now.number n))) now.ensures.g
-    (subst (λ (p : Part). OnOk c.make_due.result (c.make_due.new.self ≡ after_due P S c.args.self.now (due (code_of P) S (state_of P S c.args.self.now.journal) p.number now.result))) now.ensures.share
-    (subst (λ (s : Scene). OnOk c.make_due.result (c.make_due.new.self ≡ after_due P S s (due (code_of P) S (state_of P S s.journal) now.new.who.number now.result))) now.ensures.scene c.make_due.ensures.scene))
+    subst (λ n. OnOk c.make_due.result (c.make_due.new.self ≡ after_due P S c.args.self.now c.make_due.new.self (due (code_of P) S (state_of P S c.args.self.now.journal) c.args.who.now.number n))) now.ensures.g
+    (subst (λ (p : Part). OnOk c.make_due.result (c.make_due.new.self ≡ after_due P S c.args.self.now c.make_due.new.self (due (code_of P) S (state_of P S c.args.self.now.journal) p.number now.result))) now.ensures.share
+    (subst (λ (s : Scene). OnOk c.make_due.result (c.make_due.new.self ≡ after_due P S s c.make_due.new.self (due (code_of P) S (state_of P S s.journal) now.new.who.number now.result))) now.ensures.scene c.make_due.ensures.scene))
 
 pub returns-clause-share : goal.returns-clause-share
 returns-clause-share g c =
