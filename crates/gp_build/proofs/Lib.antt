@@ -7,6 +7,7 @@ pub mod Comparing
 pub mod Counts
 pub mod Steps
 pub mod Total
+pub mod Ranking
 pub mod Spelling
 pub mod Ids
 pub mod Faultless

@@ -1,12 +1,12 @@
 -- Stacks that are compared by the numbers of their blocks are compared frame by frame.
 use Rattle.std.proofs.Common.{◌≡◌, ℕ, zero, suc, ◌^◌, ◌<◌, All, Bool, true, false, List, [], ◌∷◌, ◌++◌, length, map, take, drop, get_or, slice_get, Some, Option, refl, sym, ap, ◌∙◌, subst, true≢false, if◌then◌else◌, arith}
 use Rattle.std.specs.List.{list_any, AllByRecursion}
-use Rattle.std.specs.Ordering.{nat_cmp, ordering_then, ordering_reverse, is_lt}
+use Rattle.std.specs.Ordering.{nat_cmp, ordering_then, is_lt}
 use Rattle.std.specs.Cmp.{IsTotalOrder, IsStrictWeakOrder}
 use Rattle.std.specs.Cmp.Lexicographic.{slice_cmp, pointwise}
 use Rattle.std.specs.declared.cmp.Ordering.{Ordering}
 use Rattle.std.specs.declared.cmp.Ordering.TheVariants.{Less, Equal, Greater}
-use Rattle.std.proofs.lemmas.Cmp.{then_total, back_total, on_total, lists_total, nat_cmp_total}
+use Rattle.std.proofs.lemmas.Cmp.{then_total, back_total, on_total, lists_total, nat_cmp_total, tied_itself}
 use Rattle.std.specs.List.Sorted.{IsSortedBy, IsStableBy}
 use Rattle.std.proofs.lemmas.List.Sorted.{ranks_by}
 use Rattle.std.proofs.lemmas.List.Elements.{All-from_recursion, recursion_from_All}
@@ -14,14 +14,17 @@ use Rattle.std.proofs.lemmas.List.{drop-drop, get_or_append_left, get_or_read, l
 use Rattle.indexmap.specs.IndexSet.{insert_key}
 use Rattle.gp_isa.specs.declared.frame.Frame.{Frame}
 use Rattle.gp_isa.specs.declared.parts.Parts.{Parts}
+use Rattle.gp_build.specs.declared.ranks.Ranks.{Ranks}
 use Rattle.gp_build.specs.declared.samples.Group.{Group}
 use Rattle.gp_build.specs.declared.spelled.Spelled.{Spelled}
 use Rattle.gp_build.specs.Samples.{group_cmp, put, in_order}
-use Rattle.gp_build.specs.Shown.{same_frame, frame_cmp, pair_cmp}
+use Rattle.gp_build.specs.Shown.{same_frame, pair_cmp}
+use Rattle.gp_build.specs.kept.Ranks.{ranked_cmp, AreRanks}
 use Rattle.gp_build.specs.kept.Spelled.{blocks_of, rest_behind, block_at, number_cmp, spelled_cmp, IsNumber, Grows, Spells, IsSpelled}
 use Rattle.gp_build.specs.laws.Alike.{both_first, both_second, same_frame-is}
 use Rattle.gp_build.proofs.Order.{in_order-from_sort}
-use Rattle.gp_build.proofs.Total.{frame_total, pair_total}
+use Rattle.gp_build.proofs.Ranking.{ranked_total, ranked-is}
+use Rattle.gp_build.proofs.Total.{pair_total}
 
 -- ---- blocks that are the same
 
@@ -155,36 +158,34 @@ rest_is : (stack : List Frame) → rest_behind 4 stack ≡ drop 32 stack
 rest_is stack =
     drop-drop 8 8 (drop 8 (drop 8 stack)) ∙ drop-drop 16 8 (drop 8 stack) ∙ drop-drop 24 8 stack
 
--- where groups are spelled, their order is that of their stacks
-pub spelled_cmp-is : (parts : Parts) (table : List (List Frame)) (a b : Spelled) → IsSpelled table a → IsSpelled table b → spelled_cmp parts table a b ≡ group_cmp parts a.group b.group
-spelled_cmp-is parts table a b s t =
-    let R : Frame → Frame → Ordering = frame_cmp parts in
-    let stack : List Frame = a.group.shown.stack in
-    let other : List Frame = b.group.shown.stack in
-    let stacks : ordering_then (slice_cmp (number_cmp parts table) a.blocks b.blocks) (slice_cmp R (drop 32 stack) (drop 32 other)) ≡ slice_cmp R stack other =
-    (λ i. ordering_then (numbers_cmp R table a.blocks b.blocks (blocks_of 4 stack) (blocks_of 4 other) s t i) (slice_cmp R (sym (rest_is stack) i) (sym (rest_is other) i)))
-    ∙ sym (blocks_cmp R 4 stack other) in
-    ap (λ (o : Ordering). ordering_then (nat_cmp b.group.count a.group.count) (ordering_then o (slice_cmp pair_cmp a.group.shown.labels b.group.shown.labels))) stacks
+module _ (R : Frame → Frame → Ordering) (table : List (List Frame)) where
+  -- where groups are spelled, their order is that of their stacks
+  spelled_cmp-is : (a b : Spelled) → IsSpelled table a → IsSpelled table b
+      → spelled_cmp R table a b
+      ≡ ordering_then (nat_cmp b.group.count a.group.count) (ordering_then (slice_cmp R a.group.shown.stack b.group.shown.stack) (slice_cmp pair_cmp a.group.shown.labels b.group.shown.labels))
+  spelled_cmp-is a b s t =
+      let stack : List Frame = a.group.shown.stack in
+      let other : List Frame = b.group.shown.stack in
+      let stacks : ordering_then (slice_cmp (number_cmp R table) a.blocks b.blocks) (slice_cmp R (drop 32 stack) (drop 32 other)) ≡ slice_cmp R stack other =
+      (λ i. ordering_then (numbers_cmp R table a.blocks b.blocks (blocks_of 4 stack) (blocks_of 4 other) s t i) (slice_cmp R (sym (rest_is stack) i) (sym (rest_is other) i)))
+      ∙ sym (blocks_cmp R 4 stack other) in
+      ap (λ (o : Ordering). ordering_then (nat_cmp b.group.count a.group.count) (ordering_then o (slice_cmp pair_cmp a.group.shown.labels b.group.shown.labels))) stacks
 
--- ---- the order is total
+  -- ---- the order is total
 
-number_total : (parts : Parts) (table : List (List Frame)) → IsTotalOrder (number_cmp parts table)
-number_total parts table = on_total (λ (n : ℕ). block_at table n) (lists_total (frame_total parts))
+  module _ (total : IsTotalOrder R) where
+    number_total : IsTotalOrder (number_cmp R table)
+    number_total = on_total (λ (n : ℕ). block_at table n) (lists_total total)
 
-pub number_itself : (parts : Parts) (table : List (List Frame)) (n : ℕ) → number_cmp parts table n n ≡ Equal
-number_itself parts table n = itself (number_cmp parts table n n) ((number_total parts table).antisymm n n)
-  where
-    itself : (o : Ordering) → o ≡ ordering_reverse o → o ≡ Equal
-    itself Less e = cc
-    itself Equal e = refl
-    itself Greater e = cc
+    pub number_itself : (n : ℕ) → number_cmp R table n n ≡ Equal
+    number_itself n = tied_itself number_total n
 
-pub spelled_total : (parts : Parts) (table : List (List Frame)) → IsTotalOrder (spelled_cmp parts table)
-spelled_total parts table =
-    then_total (back_total (on_total (λ (it : Spelled). it.group.count) nat_cmp_total))
-    (then_total
-    (then_total (on_total (λ (it : Spelled). it.blocks) (lists_total (number_total parts table))) (on_total (λ (it : Spelled). drop 32 it.group.shown.stack) (lists_total (frame_total parts))))
-    (on_total (λ (it : Spelled). it.group.shown.labels) (lists_total pair_total)))
+    pub spelled_total : IsTotalOrder (spelled_cmp R table)
+    spelled_total =
+        then_total (back_total (on_total (λ (it : Spelled). it.group.count) nat_cmp_total))
+        (then_total
+        (then_total (on_total (λ (it : Spelled). it.blocks) (lists_total number_total)) (on_total (λ (it : Spelled). drop 32 it.group.shown.stack) (lists_total total)))
+        (on_total (λ (it : Spelled). it.group.shown.labels) (lists_total pair_total)))
 
 -- ---- a list in order
 
@@ -224,16 +225,22 @@ module _ {X Y : Type 0} (f : X → Y) (before : X → X → Bool) (before' : Y �
   map-in_order (x ∷ xs) all =
       map-put x (in_order before xs) all.0 (all-in_order before Q xs all.1) ∙ ap (put before' (f x)) (map-in_order xs all.1)
 
--- A stable sort by numbers of blocks puts groups in their order.
-pub ordered-is : (parts : Parts) (table : List (List Frame)) (groups : List Group) (all sorted : List Spelled) → map (λ (it : Spelled). it.group) all ≡ groups
-    → AllByRecursion (IsSpelled table) all → IsSortedBy (λ a b. is_lt (spelled_cmp parts table a b)) sorted → IsStableBy (λ a b. is_lt (spelled_cmp parts table a b)) all sorted
+-- A stable sort by numbers of blocks, and by ranks of functions, puts groups in their order.
+pub ordered-is : (parts : Parts) (ranks : Ranks) (table : List (List Frame)) (groups : List Group) (all sorted : List Spelled) → AreRanks parts ranks
+    → map (λ (it : Spelled). it.group) all ≡ groups → AllByRecursion (IsSpelled table) all
+    → IsSortedBy (λ a b. is_lt (spelled_cmp (ranked_cmp ranks) table a b)) sorted → IsStableBy (λ a b. is_lt (spelled_cmp (ranked_cmp ranks) table a b)) all sorted
     → map (λ (it : Spelled). it.group) sorted ≡ in_order (λ a b. is_lt (group_cmp parts a b)) groups
-ordered-is parts table groups all sorted is spelled is_sorted is_stable =
-    let before : Spelled → Spelled → Bool = λ a b. is_lt (spelled_cmp parts table a b) in
-    let order : IsStrictWeakOrder before = ranks_by (spelled_total parts table) (λ (it : Spelled). it) in
+ordered-is parts ranks table groups all sorted are is spelled is_sorted is_stable =
+    let R : Frame → Frame → Ordering = ranked_cmp ranks in
+    let before : Spelled → Spelled → Bool = λ a b. is_lt (spelled_cmp R table a b) in
+    let order : IsStrictWeakOrder before = ranks_by (spelled_total R table (ranked_total ranks)) (λ (it : Spelled). it) in
+    let same : (a b : Spelled) → IsSpelled table a → IsSpelled table b → before a b ≡ is_lt (group_cmp parts a.group b.group) = λ a b s t.
+    ap is_lt (spelled_cmp-is R table a b s t
+    ∙ ap (λ (S : Frame → Frame → Ordering). ordering_then (nat_cmp b.group.count a.group.count)
+    (ordering_then (slice_cmp S a.group.shown.stack b.group.shown.stack) (slice_cmp pair_cmp a.group.shown.labels b.group.shown.labels)))
+    (ranked-is parts ranks are)) in
     ap (map (λ (it : Spelled). it.group)) (in_order-from_sort order all sorted is_sorted is_stable)
-    ∙ map-in_order (λ (it : Spelled). it.group) before (λ a b. is_lt (group_cmp parts a b)) (IsSpelled table)
-    (λ a b s t. ap is_lt (spelled_cmp-is parts table a b s t)) all spelled
+    ∙ map-in_order (λ (it : Spelled). it.group) before (λ a b. is_lt (group_cmp parts a b)) (IsSpelled table) same all spelled
     ∙ ap (in_order (λ a b. is_lt (group_cmp parts a b))) is
 
 -- ---- counts

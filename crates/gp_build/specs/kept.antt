@@ -1,3 +1,4 @@
 pub mod Tables
+pub mod Ranks
 pub mod Spelled
 pub mod Ids

@@ -1,18 +1,16 @@
 ghost use Rattle.std.specs.Prelude.{◌≡◌};
 ghost use Rattle.std.specs.Cmp.Lexicographic.{slice_cmp};
-ghost use Rattle.gp_build.specs.Shown.{frame_cmp, pair_cmp};
+ghost use Rattle.gp_build.specs.Shown.{pair_cmp};
+ghost use Rattle.gp_build.specs.kept.Ranks.{ranked_cmp};
 
-use crate::lookup::function_name;
-use gp_isa::{Frame, Pair, Parts};
+use crate::ranks::Ranks;
+use gp_isa::{Frame, Pair};
 use std::cmp::Ordering;
 
-fn compare_frames(parts: &Parts, a: Frame, b: Frame) -> Ordering
-    ensures { result ≡ frame_cmp parts.now a b }
+fn compare_frames(ranks: &Ranks, a: Frame, b: Frame) -> Ordering
+    ensures { result ≡ ranked_cmp ranks.now a b }
 {
-    if a.function == b.function {
-        return a.line.cmp(&b.line);
-    }
-    match function_name(parts, a.function).cmp(function_name(parts, b.function)) {
+    match ranks.compare(a.function, b.function) {
         Ordering::Equal => a.line.cmp(&b.line),
         order => order,
     }
@@ -28,11 +26,11 @@ fn compare_pairs(a: &Pair, b: &Pair) -> Ordering
 }
 
 /// Frame by frame from the leaf, a proper prefix first.
-pub(crate) fn compare_stacks(parts: &Parts, a: &[Frame], b: &[Frame]) -> Ordering
-    ensures { result ≡ slice_cmp (frame_cmp parts.now) a.now b.now }
+pub(crate) fn compare_stacks(ranks: &Ranks, a: &[Frame], b: &[Frame]) -> Ordering
+    ensures { result ≡ slice_cmp (ranked_cmp ranks.now) a.now b.now }
 {
     for (x, y) in a.iter().zip(b) {
-        match compare_frames(parts, *x, *y) {
+        match compare_frames(ranks, *x, *y) {
             Ordering::Equal => {}
             order => return order,
         }

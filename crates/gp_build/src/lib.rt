@@ -31,7 +31,8 @@
 //! **Goroutines.** Records are counted: those that show one stack with equal labels make one sample, whose value is
 //! their number (`samples`, over the keys of `shown`). The samples are put in order, falling value, then stack, then
 //! labels (`compare`). Stacks that stand near one another in order begin with the same frames, so most comparisons look at
-//! numbers of blocks of frames and at the frames of one block (`spelled`).
+//! numbers of blocks of frames and at the frames of one block (`spelled`). Frames are ordered by the names of their functions;
+//! the functions are ranked by name once a profile, and a comparison looks at their ranks (`ranks`).
 //!
 //! **Block and mutex.** The sums of waits come in their order (`gp_events`), and each makes a sample of two values, how many
 //! waits there were and how many nanoseconds they took, each at most 2^63 - 1 (`contention`): [`contention_profile`].
@@ -64,6 +65,7 @@ mod means;
 mod meant;
 mod messages;
 mod need;
+mod ranks;
 mod sample;
 mod samples;
 mod shown;

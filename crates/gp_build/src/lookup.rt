@@ -7,10 +7,10 @@ use crate::site::Routine;
 use gp_isa::{Pair, Parts};
 
 /// The name of a function of the program.
-pub(crate) fn function_name<'a>(parts: &'a Parts, f: u32) -> &'a str
+pub(crate) fn name_at<'a>(parts: &'a Parts, f: usize) -> &'a str
     ensures { result.now ≡ (function_of parts.now f).name }
 {
-    match parts.functions.get(f as usize) {
+    match parts.functions.get(f) {
         Some(function) => function.name.as_str(),
         None => "",
     }
@@ -22,7 +22,7 @@ pub(crate) fn name<'a>(parts: &'a Parts, routine: Routine) -> &'a str
     ensures { result.now ≡ name_of parts.now routine }
 {
     match routine {
-        Routine::Numbered(f) => function_name(parts, f),
+        Routine::Numbered(f) => name_at(parts, f as usize),
         Routine::LostEvents => "runtime/pprof.lostProfileEvent",
     }
 }

@@ -8,6 +8,7 @@ ghost use Rattle.gp_build.specs.Samples.{group_of, groups_of, groups_in_order};
 ghost use Rattle.gp_build.specs.Profile.{sample_of_group, goroutine_samples};
 
 use crate::messages::{one, room};
+use crate::ranks::Ranks;
 use crate::sample::StackSample;
 use crate::shown::Shown;
 use crate::site::{Site, Sites};
@@ -74,7 +75,8 @@ fn groups<'a>(
     let mut table = IndexSet::new(alloc);
     let mut all = spell_all(alloc, &mut table, counted)?;
     let blocks = table.as_slice();
-    all.sort_by(|a, b| compare(parts, blocks, a, b))?;
+    let ranks = Ranks::new(alloc, parts)?;
+    all.sort_by(|a, b| compare(&ranks, blocks, a, b))?;
     Ok(all)
 }
 

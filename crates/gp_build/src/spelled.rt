@@ -11,14 +11,16 @@ ghost use Rattle.std.specs.Hash as fed;
 ghost use Rattle.std.specs.Ordering.{ordering_then};
 ghost use Rattle.std.specs.Cmp.{partial_equiv_from_equiv};
 ghost use Rattle.std.specs.Cmp.Lexicographic.{slice_cmp, pointwise};
-ghost use Rattle.gp_build.specs.Shown.{frame_cmp, same_frame};
+ghost use Rattle.gp_build.specs.Shown.{same_frame};
 ghost use Rattle.gp_build.specs.laws.Alike.{frame_input, same_frames_equiv, frames_input-same};
+ghost use Rattle.gp_build.specs.kept.Ranks.{ranked_cmp};
 ghost use Rattle.gp_build.specs.kept.Spelled.{blocks_of, block_at, number_cmp, spelled_cmp, IsNumber, Grows, Spells, IsSpelled};
 
 use crate::compare::{compare_labels, compare_stacks};
+use crate::ranks::Ranks;
 use crate::samples::Group;
 use crate::shown::hash_frames;
-use gp_isa::{Frame, Memory, Parts};
+use gp_isa::{Frame, Memory};
 use indexmap::IndexSet;
 use std::alloc::Global;
 use std::cmp::Ordering;
@@ -162,20 +164,20 @@ fn frames_of<'a>(table: &[Block<'a>], n: usize) -> &'a [Frame]
     }
 }
 
-fn compare_numbers(parts: &Parts, table: &[Block], n: usize, m: usize) -> Ordering
-    ensures { result ≡ number_cmp parts.now table.now n m }
+fn compare_numbers(ranks: &Ranks, table: &[Block], n: usize, m: usize) -> Ordering
+    ensures { result ≡ number_cmp (ranked_cmp ranks.now) table.now n m }
 {
     if n == m {
         return Ordering::Equal;
     }
-    compare_stacks(parts, frames_of(table, n), frames_of(table, m))
+    compare_stacks(ranks, frames_of(table, n), frames_of(table, m))
 }
 
-fn compare_blocks(parts: &Parts, table: &[Block], a: &[usize], b: &[usize]) -> Ordering
-    ensures { result ≡ slice_cmp (number_cmp parts.now table.now) a.now b.now }
+fn compare_blocks(ranks: &Ranks, table: &[Block], a: &[usize], b: &[usize]) -> Ordering
+    ensures { result ≡ slice_cmp (number_cmp (ranked_cmp ranks.now) table.now) a.now b.now }
 {
     for (n, m) in a.iter().zip(b) {
-        match compare_numbers(parts, table, *n, *m) {
+        match compare_numbers(ranks, table, *n, *m) {
             Ordering::Equal => {}
             order => return order,
         }
@@ -194,13 +196,13 @@ fn rest(stack: &[Frame]) -> &[Frame]
     behind
 }
 
-fn compare_spelled_stacks(parts: &Parts, table: &[Block], a: &Spelled, b: &Spelled) -> Ordering
-    ensures { result ≡ ordering_then (slice_cmp (number_cmp parts.now table.now) a.now.blocks b.now.blocks)
-        (slice_cmp (frame_cmp parts.now) (drop 32 a.now.group.shown.stack) (drop 32 b.now.group.shown.stack)) }
+fn compare_spelled_stacks(ranks: &Ranks, table: &[Block], a: &Spelled, b: &Spelled) -> Ordering
+    ensures { result ≡ ordering_then (slice_cmp (number_cmp (ranked_cmp ranks.now) table.now) a.now.blocks b.now.blocks)
+        (slice_cmp (ranked_cmp ranks.now) (drop 32 a.now.group.shown.stack) (drop 32 b.now.group.shown.stack)) }
 {
-    match compare_blocks(parts, table, &a.blocks, &b.blocks) {
+    match compare_blocks(ranks, table, &a.blocks, &b.blocks) {
         Ordering::Equal => compare_stacks(
-            parts,
+            ranks,
             rest(a.group.shown.stack()),
             rest(b.group.shown.stack()),
         ),
@@ -209,11 +211,11 @@ fn compare_spelled_stacks(parts: &Parts, table: &[Block], a: &Spelled, b: &Spell
 }
 
 /// The order of samples: falling count, then stack, then labels.
-pub(crate) fn compare(parts: &Parts, table: &[Block], a: &Spelled, b: &Spelled) -> Ordering
-    ensures { result ≡ spelled_cmp parts.now table.now a.now b.now }
+pub(crate) fn compare(ranks: &Ranks, table: &[Block], a: &Spelled, b: &Spelled) -> Ordering
+    ensures { result ≡ spelled_cmp (ranked_cmp ranks.now) table.now a.now b.now }
 {
     match b.group.count.cmp(&a.group.count) {
-        Ordering::Equal => match compare_spelled_stacks(parts, table, a, b) {
+        Ordering::Equal => match compare_spelled_stacks(ranks, table, a, b) {
             Ordering::Equal => compare_labels(a.group.shown.labels(), b.group.shown.labels()),
             order => order,
         },

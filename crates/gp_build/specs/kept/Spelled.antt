@@ -4,9 +4,8 @@ use Rattle.std.specs.Ordering.{nat_cmp, ordering_then}
 use Rattle.std.specs.Cmp.Lexicographic.{slice_cmp}
 use Rattle.std.specs.declared.cmp.Ordering.{Ordering}
 use Rattle.gp_isa.specs.declared.frame.Frame.{Frame}
-use Rattle.gp_isa.specs.declared.parts.Parts.{Parts}
 use Rattle.gp_build.specs.declared.spelled.Spelled.{Spelled}
-use Rattle.gp_build.specs.Shown.{frame_cmp, pair_cmp}
+use Rattle.gp_build.specs.Shown.{pair_cmp}
 
 -- so many blocks of a stack, each of 8 frames, of which the last ones may be shorter or empty
 abbrev pub blocks_of : ℕ → List Frame → List (List Frame)
@@ -42,15 +41,15 @@ Spells table (n ∷ ns) (b ∷ bs) = IsNumber table n b × Spells table ns bs
 abbrev pub IsSpelled : List (List Frame) → Spelled → Type 0
 IsSpelled table it = Spells table it.blocks (blocks_of 4 it.group.shown.stack)
 
--- the order of groups, by the numbers of their blocks
-module _ (parts : Parts) (table : List (List Frame)) where
+-- the order of groups, by the numbers of their blocks, where frames are in the order `R`
+module _ (R : Frame → Frame → Ordering) (table : List (List Frame)) where
   abbrev pub number_cmp : ℕ → ℕ → Ordering
-  number_cmp n m = slice_cmp (frame_cmp parts) (block_at table n) (block_at table m)
+  number_cmp n m = slice_cmp R (block_at table n) (block_at table m)
 
   abbrev pub spelled_cmp : Spelled → Spelled → Ordering
   spelled_cmp a b =
       ordering_then (nat_cmp b.group.count a.group.count)
       (ordering_then
       (ordering_then (slice_cmp number_cmp a.blocks b.blocks)
-      (slice_cmp (frame_cmp parts) (drop 32 a.group.shown.stack) (drop 32 b.group.shown.stack)))
+      (slice_cmp R (drop 32 a.group.shown.stack) (drop 32 b.group.shown.stack)))
       (slice_cmp pair_cmp a.group.shown.labels b.group.shown.labels))

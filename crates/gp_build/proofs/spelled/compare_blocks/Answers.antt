@@ -2,6 +2,7 @@ use Rattle.std.proofs.Common.{◌≡◌, sym, ◌∙◌, rules}
 use Rattle.std.specs.Slice.Iter.{iter_rest}
 use Rattle.std.specs.Iterator.Adapters.{zip_first, zip_second}
 use Rattle.std.proofs.lemmas.Slice.Zip.{either_empty_from_Zip}
+use Rattle.gp_build.specs.kept.Ranks.{ranked_cmp}
 use Rattle.gp_build.specs.kept.Spelled.{number_cmp}
 use Rattle.gp_build.proofs.Comparing.{left_all, left_more, left_told, left_end}
 use Rattle.gp_build.proofs.spelled.compare_blocks.Goals as goal
@@ -10,22 +11,22 @@ pub loop-n-init : goal.loop-n-init
 loop-n-init c =
     let first : iter_rest (zip_first c.into_iter-n-iterator.result) ≡ c.args.a.now = search rules in
     let second : iter_rest (zip_second c.into_iter-n-iterator.result) ≡ c.args.b.now = search rules in
-    ((tt, tt), tt, left_all (number_cmp c.args.parts.now c.args.table.now) c.args.a.now c.args.b.now _ _ first second)
+    ((tt, tt), tt, left_all (number_cmp (ranked_cmp c.args.ranks.now) c.args.table.now) c.args.a.now c.args.b.now _ _ first second)
 
 pub loop-n-preserved : goal.loop-n-preserved
 loop-n-preserved c = (
   (tt, tt),
   tt,
-  left_more (number_cmp c.args.parts.now c.args.table.now) c.args.a.now c.args.b.now _ _ _ _ c.in-Some.n.now c.in-Some.m.now
+  left_more (number_cmp (ranked_cmp c.args.ranks.now) c.args.table.now) c.args.a.now c.args.b.now _ _ _ _ c.in-Some.n.now c.in-Some.m.now
       c.in-Some.ensures.steps.0 c.in-Some.ensures.steps.1 c.loop-n.invariant.2 (sym c.compare_numbers.ensures ∙ c.in-Equal.is),
 )
 
 pub returns-in_default : goal.returns-in_default
 returns-in_default c =
-    left_told (number_cmp c.args.parts.now c.args.table.now) c.args.a.now c.args.b.now _ _ _ _ c.in-Some.n.now c.in-Some.m.now c.compare_numbers.result
+    left_told (number_cmp (ranked_cmp c.args.ranks.now) c.args.table.now) c.args.a.now c.args.b.now _ _ _ _ c.in-Some.n.now c.in-Some.m.now c.compare_numbers.result
     c.in-Some.ensures.steps.0 c.in-Some.ensures.steps.1 c.loop-n.invariant.2 c.compare_numbers.ensures c.in_default.not-Equal
 
 pub returns : goal.returns
 returns c =
-    c.cmp.ensures ∙ left_end (number_cmp c.args.parts.now c.args.table.now) c.args.a.now c.args.b.now _ _
+    c.cmp.ensures ∙ left_end (number_cmp (ranked_cmp c.args.ranks.now) c.args.table.now) c.args.a.now c.args.b.now _ _
     (either_empty_from_Zip c.loop-n.n-iterator c.next.new.self c.next.result c.in-None.is c.next.ensures.steps) c.loop-n.invariant.2
