@@ -1,6 +1,7 @@
 ghost use Rattle.std.specs.Prelude.{◌≡◌, ◌<◌, ◌≤◌, ◌+◌, ◌^◌, true, Some, None, is_some, IfSome, IfNone};
 ghost use Rattle.gp_journal.specs.Settings.{AreInRange};
 ghost use Rattle.gp_journal.specs.State.{code_of};
+ghost use Rattle.gp_journal.specs.Due as definition;
 ghost use Rattle.gp_journal.specs.Run.{state_of};
 ghost use Rattle.gp_journal.specs.Shown.{IsGiven};
 ghost use Rattle.gp_journal.specs.Bodies.{AreBodiesOf};
@@ -30,10 +31,11 @@ pub(crate) struct Step {
 }
 
 // Whom idle workers go on with, where they can act: all of them can, or none.
-fn idle_head<R: Run>(machine: &Machine<R>) -> Option<u32>
+fn idle_head<R: Run>(machine: &Machine<R>, asked: bool) -> Option<u32>
+    requires { asked ≡ definition.asked R.settings (state_of R.program R.settings machine.now) }
     ensures { result ≡ idle_head R.settings (state_of R.program R.settings machine.now) }
 {
-    if machine.asked() || machine.over() {
+    if asked || machine.over() {
         return None;
     }
     machine.head()
@@ -137,16 +139,22 @@ fn answer<R: Run>(machine: &Machine<R>, settings: &Settings) -> Entry
 }
 
 // Whether the profiler can act.
-fn profiler_acts<R: Run>(machine: &Machine<R>) -> bool
+fn profiler_acts<R: Run>(machine: &Machine<R>, asked: bool) -> bool
+    requires { asked ≡ definition.asked R.settings (state_of R.program R.settings machine.now) }
     ensures { result ≡ is_some (profiler_action R.settings (state_of R.program R.settings machine.now)) }
 {
-    machine.active() > 0 || (machine.asked() && machine.running() == 0)
+    machine.active() > 0 || (asked && machine.running() == 0)
 }
 
 // What the profiler does, if it can act.
-fn profiler_action<R: Run>(machine: &Machine<R>, settings: &Settings) -> Option<Entry>
+fn profiler_action<R: Run>(
+    machine: &Machine<R>,
+    settings: &Settings,
+    asked: bool,
+) -> Option<Entry>
     requires settings { settings.now ≡ R.settings }
     requires range { AreInRange settings.now }
+    requires asked { asked ≡ definition.asked R.settings (state_of R.program R.settings machine.now) }
     ensures entry { result ≡ profiler_action R.settings (state_of R.program R.settings machine.now) }
     ensures no_point { IfSome result (λ entry. IsGiven (code_of R.program) (state_of R.program R.settings machine.now) entry None) }
 {
@@ -160,7 +168,7 @@ fn profiler_action<R: Run>(machine: &Machine<R>, settings: &Settings) -> Option<
             None => Some(Entry::Close { epoch: active }),
         };
     }
-    if machine.asked() && machine.running() == 0 {
+    if asked && machine.running() == 0 {
         return Some(answer(machine, settings));
     }
     None
@@ -177,7 +185,8 @@ fn number_acting(entries: u32, reads: bool) -> u32
     entries + reads as u32
 }
 
-/// The next turn, where a worker or the profiler can act. Only the one that acts is looked at.
+/// The next turn, where a worker or the profiler can act. Only the one that acts is looked at, and whether a profile is asked
+/// for is asked once for all of them.
 pub(crate) fn next_step<R: Run>(
     machine: &Machine<R>,
     bodies: &Bodies<R>,
@@ -204,9 +213,10 @@ pub(crate) fn next_step<R: Run>(
     ensures one { IfSome result (λ step. step.turn.taken ≤ numbers.now + 1) }
 {
     let _ = machine.journal();
-    let head = idle_head(machine);
+    let asked = machine.asked();
+    let head = idle_head(machine, asked);
     let workers = able(machine, settings, head);
-    let entries = workers + profiler_acts(machine) as u32;
+    let entries = workers + profiler_acts(machine, asked) as u32;
     let draw = numbers.choose(number_acting(entries, ring.has_more()))?;
     let taken = draw.taken;
     if draw.place < workers {
@@ -225,7 +235,7 @@ pub(crate) fn next_step<R: Run>(
             point: None,
         });
     }
-    match profiler_action(machine, settings) {
+    match profiler_action(machine, settings, asked) {
         Some(entry) => Some(Step {
             turn: Turn {
                 act: Act::Make { entry },
