@@ -22,11 +22,11 @@ use gp_history::History;
 use gp_isa::{Memory, Program};
 use gp_machine::{AtPoint, Entry, Run, Settings, SharedPoint};
 use gp_samples::{offer_sample, read};
-use gp_stack::Operation;
+use gp_stack::{Operation, Stack};
 use std::alloc::Global;
 
 // Makes the Op of g, whose body stands at its next point, a shared one, on w. What it leaves for the profiles of waits goes
-// with a copy of that stack, which is made first; no copy is made where it leaves nothing.
+// with a copy of that stack, which is made first; the body isn't asked for one where it leaves nothing.
 fn come_to<R: Run>(
     history: &mut History<R>,
     bodies: &Bodies<R>,
@@ -48,7 +48,11 @@ fn come_to<R: Run>(
     ensures err { OnErr result (history.new ≡ history.old) }
 {
     let event = history.foresee(w, point.operation);
-    let stack = bodies.stack(alloc, program, g, event.frames())?;
+    let frames = event.frames();
+    if frames == 0 {
+        return history.operate(w, g, point, event, Stack::new(alloc));
+    }
+    let stack = bodies.stack(alloc, program, g, frames)?;
     history.operate(w, g, point, event, stack)
 }
 

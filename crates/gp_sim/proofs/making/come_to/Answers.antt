@@ -18,10 +18,3 @@ pub foresee-event-requires-clause-operation : goal.foresee-event-requires-clause
 foresee-event-requires-clause-operation g c = λ h runs.
     subst (λ (h : ℕ). operation_of (next_instruction (code_of g.R.Run.program) (state_of g.R.Run.program g.R.Run.settings c.args.history.now) h) ≡ Some c.args.point.operation)
     (same_Some c.args.g h (sym c.requires.may.runs ∙ runs)) c.requires.point.operation
-
-pub operate-requires-clause-event : goal.operate-requires-clause-event
-operate-requires-clause-event g c = c.foresee-event.ensures c.args.g c.requires.may.runs
-
-pub operate-requires-clause-stack : goal.operate-requires-clause-stack
-operate-requires-clause-stack g c =
-    c.in_ok-stack.ensures ∙ (λ i. take (c.frames.ensures i) (stack_at g.R.Run.program (c.requires.stands i)))
