@@ -96,3 +96,24 @@ for workers in (1, 2, 4):
     asked = [word for at in range(50_000, 450_000, 50_000) for word in ("--at", at)]
     found = measure([([gp, command, *options, *more], None) for command in ("run", "sim") for more in (asked, [])], status=8)
     row(workers, (found[0].passed - found[1].passed) / 8 * 1e3, (found[2].passed - found[3].passed) / 8 * 1e3, found[0].memory)
+
+# The judge of the stress prints a run's numbers only after it has replayed its journal and compared each file with it.
+print("\nThe same, four profiles, 16,380 goroutines that wait and four that go on: what workers did between an Open and its Close.")
+print("Each figure is that of one profile: of the run in the middle of all, and how much workers did in the run in which they did least.")
+judge = os.environ.get("GP_JUDGE", "")
+if not judge:
+    print("without it: crates/gp_stress isn't built (`rt run` there)")
+    sys.exit()
+head("workers", "records", "by workers", "runs and ops", "least of them")
+text = "chan never 0;chan c 64;func blocked {;recv never;};func busy {;loop 1000000 {;send c;recv c;};};"
+text += "func main {;loop 16380 {;spawn blocked;};spawn busy;spawn busy;spawn busy;call busy;};"
+for workers in (1, 2, 4):
+    asked = " ".join(f"--at {at}" for at in range(50_000, 250_000, 50_000))
+    words = f"gp run a.gp --workers {workers} --cells 16384 --room 16384 --entries 400000 {asked}"
+    all_said = []
+    for _ in range(rounds):
+        judged = subprocess.run([judge], input=f"whole 0 0 0 {words} : text {text}\n", stdout=subprocess.PIPE, encoding="utf-8", check=True)
+        all_said.append({name: int(it) / 4 for name, it in re.findall(r"(records|by workers|within) (\d+)", judged.stdout)})
+    all_said.sort(key=lambda said: said["within"])
+    middle = all_said[len(all_said) // 2]
+    row(workers, int(middle["records"]), middle["by workers"], int(middle["within"]), int(all_said[0]["within"]))

@@ -6,4 +6,6 @@
 . "$(dirname -- "${BASH_SOURCE[0]}")/head.bash" "$@"
 
 build_beside
+judge=$top/crates/gp_stress/out/gp_stress
+[ -x "$judge" ] && export GP_JUDGE=$judge
 python3 -B "$here/run.py" "$gp" "$here/programs.py" "$rounds" $beside

@@ -206,8 +206,14 @@ def run_line(rng, at):
 class Program:
     """gp_stress, which answers a line by a line."""
 
-    def __init__(self, path, most=None):
-        limit = (lambda: resource.setrlimit(resource.RLIMIT_AS, (most, most))) if most else None
+    def __init__(self, path, most=None, stack=None):
+        """With so many bytes of memory at most, and as many for the stack of each thread, if they are told."""
+        def limit():
+            if most:
+                resource.setrlimit(resource.RLIMIT_AS, (most, most))
+            if stack:
+                resource.setrlimit(resource.RLIMIT_STACK, (stack, resource.getrlimit(resource.RLIMIT_STACK)[1]))
+
         # (with one heap for all threads, and what is free given back, it holds as much after each run)
         words = dict(os.environ, MALLOC_ARENA_MAX="1", MALLOC_MMAP_THRESHOLD_="131072", MALLOC_TRIM_THRESHOLD_="131072")
         self.process = subprocess.Popen([path], stdin=subprocess.PIPE, stdout=subprocess.PIPE, preexec_fn=limit, env=words)
@@ -284,8 +290,50 @@ def want_of_memory(path):
     return statuses
 
 
+def want_in_a_loop(path):
+    """The status of a run whose samples alone take more memory than there is, where the same run with next to none ends well. So what the
+    run begins with is there, and it is a loop that wants memory; the others would go on for ten times as long, until the journal is full."""
+    deep = function("main", "call f0")
+    for k in range(60):
+        deep += function("f%d" % k, "call f%d" % (k + 1))
+    deep += function("f60", *loop(4, "work 1000000"))
+    statuses = []
+    for most in 48, 64, 96, 128, 192, 256:
+        for rate in 1, 1000000:
+            program = Program(path, most << 20)
+            words = ["--workers", 2, "--cells", 16, "--hz", rate, "--entries", 4194304 if rate > 1 else 65536]
+            statuses.append(numbers(program.answer(line_of(words, deep))).get("status"))
+            program.end()
+            if statuses[-1] == 9 and rate == 1:
+                statuses.clear()
+                break
+        if statuses:
+            break
+    return statuses
+
+
+def without_threads(path, rng, runs):
+    """Runs where the system makes no thread, one, two or four at most: no more stacks fit into the memory that there is. The caller then
+    acts for the actors that have none, in turn with its own, and each run has to come to what it comes to otherwise."""
+    right, stack = True, 1 << 30
+    for started in 0, 1, 2, 4:
+        program = Program(path, stack * started + stack * 9 // 10, stack)
+        for at in range(runs):
+            line = line_of(options(rng, 1 + at % 16), rng.choice(PROGRAMS)(rng))
+            answer = program.answer(line)
+            if numbers(answer).get("status", 9) == 9 or "WRONG" in answer:
+                right = fails("with %d threads at most: %s, of the line\n%s" % (started, answer or "nothing", line))
+        if program.end() != 0:
+            right = fails("with %d threads at most it ended with another status" % started)
+    return right
+
+
 def main(path, runs, seed):
     statuses, had, memory, right = stress(path, runs, seed)
+    in_a_loop = want_in_a_loop(path)
+    if in_a_loop != [0, 9]:
+        right = fails("with few samples and with many a run ends with status %s in as much memory" % in_a_loop)
+    right = without_threads(path, random.Random(seed), min(runs, 40)) and right
     ever_more = want_of_memory(path)
     if set(ever_more[:-1]) != {9} or ever_more[-1] != 0:
         right = fails("in ever more memory a run ends with status %s" % ever_more)
