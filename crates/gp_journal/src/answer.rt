@@ -45,9 +45,9 @@ pub enum Applied {
 /// A goroutine that was woken.
 #[derive(Clone, Copy, Debug, PartialEq, Eq)]
 pub struct Woken {
-    pub g: u32,
     /// The clock at which it blocked, in instructions.
     pub since: u64,
+    pub g: u32,
     /// It waited for a mutex, which was unlocked.
     pub contended: bool,
 }

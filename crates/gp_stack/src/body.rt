@@ -1,4 +1,4 @@
-ghost use Rattle.std.specs.Prelude.{◌≡◌, ◌+◌, ◌-◌, ◌<◌, ◌≤◌, ◌^◌, ℕ, true, false, length, IfOk, min, map, take, drop};
+ghost use Rattle.std.specs.Prelude.{◌≡◌, ◌+◌, ◌-◌, ◌<◌, ◌≤◌, ◌^◌, ℕ, true, false, length, reverse, IfOk, min, map, take, drop};
 ghost use Rattle.gp_isa.specs.declared.parts.Parts.{Parts};
 ghost use Rattle.gp_isa.specs.Calls.{IsProgram};
 ghost use Rattle.gp_isa.specs.Limits.{most_functions};
@@ -9,14 +9,15 @@ ghost use Rattle.gp_stack.specs.Peek.{then_at};
 ghost use Rattle.gp_stack.specs.Word.{word_of};
 ghost use Rattle.gp_stack.specs.Body.{Progress, progress_of, is_over_at, stack_at, labels_at, ahead_at, HasRoom, StandsIn, IsAtShared};
 ghost use Rattle.gp_stack.specs.Record.{record_of};
+ghost use Rattle.gp_stack.specs.kept.Place.{IsHere};
 
 use crate::climb::{Climb, leaf, word};
 use crate::peek::{Peek, Then, look_local};
 use crate::place::Place;
 use crate::record::{Record, Stack};
 use crate::statement::Ahead;
-use gp_isa::limits::GOROUTINE_FRAMES;
-use gp_isa::{Memory, Program};
+use gp_isa::limits::{GOROUTINE_FRAMES, LOOPS};
+use gp_isa::{Block, Memory, Program};
 use std::alloc::Global;
 
 /// Where a goroutine stands in a program, told by levels and the turns of its loops.
@@ -120,18 +121,13 @@ impl Body {
         ensures stands { StandsIn program.now self.new }
         ensures progress { progress_of self.new ≡ record (progress_of self.old) { count = (progress_of self.old).count + 1 } }
     {
-        let here = self.place.here(program);
-        match self.place.ahead_in(program, &here) {
-            Ahead::Shared(_) => {
-                self.count += 1;
-                self.place.pass(program, &here, 0);
-            }
-            Ahead::End => unreachable!(),
-            Ahead::Work(_) => unreachable!(),
-            Ahead::Labels(_) => unreachable!(),
-            Ahead::Loop(_, _) => unreachable!(),
-            Ahead::Call(_) => unreachable!(),
+        // (two calls, so that what is looked up isn't copied)
+        if self.place.top.loops == LOOPS {
+            let here = program.block(self.place.top.function as u32);
+            return self.pass_in(program, &here);
         }
+        let here = self.place.here(program);
+        self.pass_in(program, &here)
     }
 
     /// How many local points are ahead, at most `limit`, and what comes behind them. It looks no further.
@@ -140,26 +136,13 @@ impl Body {
         ensures local { result.local ≡ min limit (ahead_at program.now (progress_of self.now)) }
         ensures then { let p = progress_of self.now in result.then ≡ then_at (trace program.now p.start) (p.count + result.local) }
     {
-        let here = self.place.here(program);
-        match self.place.ahead_in(program, &here) {
-            Ahead::Work(n) => {
-                let first = look_local((n - self.passed) as u64, limit);
-                self.place.look_past(program, &here, first, limit)
-            }
-            Ahead::Labels(_) => self
-                .place
-                .look_past(program, &here, look_local(1, limit), limit),
-            Ahead::Shared(operation) => Peek {
-                local: 0,
-                then: Then::Shared(operation),
-            },
-            Ahead::End => Peek {
-                local: 0,
-                then: Then::Over,
-            },
-            Ahead::Loop(_, _) => unreachable!(),
-            Ahead::Call(_) => unreachable!(),
+        // (two calls, so that what is looked up isn't copied)
+        if self.place.top.loops == LOOPS {
+            let here = program.block(self.place.top.function as u32);
+            return self.peek_in(program, &here, limit);
         }
+        let here = self.place.here(program);
+        self.peek_in(program, &here, limit)
     }
 
     /// Whether the trace is ended.
@@ -241,6 +224,55 @@ impl Body {
         written
     }
 
+    /// How many local points are ahead and what comes behind them, where the level's statements were looked up.
+    fn peek_in(&self, program: &Program, here: &Block<'_>, limit: u64) -> Peek
+        requires stands { StandsIn program.now self.now }
+        requires here { IsHere program.now self.now.place.top (reverse self.now.place.outer.items) here.now }
+        ensures local { result.local ≡ min limit (ahead_at program.now (progress_of self.now)) }
+        ensures then { result.then ≡ then_at (trace program.now self.now.start) (self.now.count + result.local) }
+    {
+        match self.place.ahead_in(program, here) {
+            Ahead::Work(n) => {
+                let first = look_local((n - self.passed) as u64, limit);
+                self.place.look_past(program, here, first, limit)
+            }
+            Ahead::Labels(_) => self
+                .place
+                .look_past(program, here, look_local(1, limit), limit),
+            Ahead::Shared(operation) => Peek {
+                local: 0,
+                then: Then::Shared(operation),
+            },
+            Ahead::End => Peek {
+                local: 0,
+                then: Then::Over,
+            },
+            Ahead::Loop(_, _) => unreachable!(),
+            Ahead::Call(_) => unreachable!(),
+        }
+    }
+
+    /// Passes the next point, which is shared, where its level's statements were looked up.
+    fn pass_in(&mut self, program: &Program, here: &Block<'_>)
+        requires stands { StandsIn program.now self.old }
+        requires here { IsHere program.now self.old.place.top (reverse self.old.place.outer.items) here.now }
+        requires shared { IsAtShared (trace program.now self.old.start) self.old.count }
+        ensures stands { StandsIn program.now self.new }
+        ensures progress { progress_of self.new ≡ record (progress_of self.old) { count = self.old.count + 1 } }
+    {
+        match self.place.ahead_in(program, here) {
+            Ahead::Shared(_) => {
+                self.count += 1;
+                self.place.pass(program, here, 0);
+            }
+            Ahead::End => unreachable!(),
+            Ahead::Work(_) => unreachable!(),
+            Ahead::Labels(_) => unreachable!(),
+            Ahead::Loop(_, _) => unreachable!(),
+            Ahead::Call(_) => unreachable!(),
+        }
+    }
+
     /// Passes up to `n` local points, those of one statement and of calls behind it, and says how many.
     fn advance_some(&mut self, program: &Program, n: u64) -> u64
         requires stands { StandsIn program.now self.old }
@@ -251,8 +283,27 @@ impl Body {
         ensures some { 0 < result }
         ensures within { result ≤ n }
     {
+        // (two calls, so that what is looked up isn't copied)
+        if self.place.top.loops == LOOPS {
+            let here = program.block(self.place.top.function as u32);
+            return self.advance_in(program, &here, n);
+        }
         let here = self.place.here(program);
-        match self.place.ahead_in(program, &here) {
+        self.advance_in(program, &here, n)
+    }
+
+    /// The same, where the level's statements were looked up.
+    fn advance_in(&mut self, program: &Program, here: &Block<'_>, n: u64) -> u64
+        requires stands { StandsIn program.now self.old }
+        requires here { IsHere program.now self.old.place.top (reverse self.old.place.outer.items) here.now }
+        requires some { 0 < n }
+        requires ahead { n ≤ local_ahead (trace program.now self.old.start) self.old.count }
+        ensures stands { StandsIn program.now self.new }
+        ensures progress { progress_of self.new ≡ record (progress_of self.old) { count = self.old.count + result } }
+        ensures some { 0 < result }
+        ensures within { result ≤ n }
+    {
+        match self.place.ahead_in(program, here) {
             Ahead::Work(of) => {
                 let left = (of - self.passed) as u64;
                 if n < left {
@@ -261,14 +312,14 @@ impl Body {
                     n
                 } else {
                     self.passed = 0;
-                    let behind = self.place.pass(program, &here, n - left);
+                    let behind = self.place.pass(program, here, n - left);
                     self.count += left + behind;
                     left + behind
                 }
             }
             Ahead::Labels(set) => {
                 self.labels = set;
-                let behind = self.place.pass(program, &here, n - 1);
+                let behind = self.place.pass(program, here, n - 1);
                 self.count += 1 + behind;
                 1 + behind
             }
