@@ -147,11 +147,7 @@ fn profiler_acts<R: Run>(machine: &Machine<R>, asked: bool) -> bool
 }
 
 // What the profiler does, if it can act.
-fn profiler_action<R: Run>(
-    machine: &Machine<R>,
-    settings: &Settings,
-    asked: bool,
-) -> Option<Entry>
+fn profiler_action<R: Run>(machine: &Machine<R>, settings: &Settings, asked: bool) -> Option<Entry>
     requires settings { settings.now ≡ R.settings }
     requires range { AreInRange settings.now }
     requires asked { asked ≡ definition.asked R.settings (state_of R.program R.settings machine.now) }
