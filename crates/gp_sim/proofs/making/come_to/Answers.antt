@@ -1,6 +1,5 @@
-use Rattle.std.proofs.Common.{◌≡◌, ℕ, take, Some, sym, ◌∙◌, subst}
+use Rattle.std.proofs.Common.{◌≡◌, ℕ, Some, sym, ◌∙◌, subst}
 use Rattle.std.proofs.lemmas.Option.{same_Some}
-use Rattle.gp_stack.specs.Body.{stack_at}
 use Rattle.gp_stack.specs.Peek.{operation_of}
 use Rattle.gp_journal.specs.State.{code_of}
 use Rattle.gp_journal.specs.Due.{next_instruction}
