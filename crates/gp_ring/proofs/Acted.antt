@@ -52,6 +52,7 @@ module _ (table : TableId) (v : View) (hand : Found) (r end overflow w : ℕ) (s
     records = v.reader.ahead;
     whole = s.seen.whole;
     counted = (let t = s.seen.tags in let l = length-append v.reader.pulled v.reader.ahead in let x : tags_of v.reader.written ≡ tags_of w = ap tags_of s.written_is in omega arith);
+    mark = (let m = s.end_most in let x = s.end_is in omega arith);
     place = λ n. ap words_of s.written_is ∙ s.seen.words ∙ ap (λ (os : List Offer). behind_all v.len 0 (v.reader.pulled ++ os)) n ∙ ap (behind_all v.len 0) (append-nil v.reader.pulled);
     after = e;
     ring = g;

@@ -53,6 +53,10 @@ all_is course desk flow v n z f g over =
       begins = subst (λ (x : ℕ × ℕ × ℕ × List Offer × List RingRecord). StartsWithHead x.0 x.1 x.2 x.3 x.4) (λ i. (sym z.0 i, sym z.1 i, sym z.2 i, sym f.offers i, same i)) n.sound.begins;
     }
 
+end_most : (b : Bool) (k : ℕ) → k ≡ (if b then 1 else 0) → k ≤ 1
+end_most true k e = omega arith
+end_most false k e = omega arith
+
 pub loads_end : {S : Type 0} (slots seat : ℕ) (me : Me S View) (st : Step S) → me.0.reads ≡ true → Allows IsRing slots seat me 4 (λ x. x) (loaded_end st me)
 loads_end slots seat me st reads s h count at bits =
     let fits = h.3 seat me.0 at in
@@ -78,6 +82,7 @@ loads_end slots seat me st reads s h count at bits =
       (h.0, same_words 4 s.words h.0 h.1, h.2, reads_on h.0 s.views seat me.0 (record me.0.reader { end_loads = me.0.reader.end_loads + 1; end = slice_index s.words 4 }) h.3 at reads new),
       (
         refl,
+        end_most h.0.course.ended (slice_index s.words 4) h.1.counts.end_is,
         (λ e. is_ended h.0.course.ended (slice_index s.words 4) h.1.counts.end_is (f.2.over e).0),
         (λ w e. (let g = fits.writer w in all_is h.0.course h.0.desk h.0.flow me.0 h.2 f.1 g.2 f.2 e)),
       ),

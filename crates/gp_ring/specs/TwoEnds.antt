@@ -1,5 +1,5 @@
 -- The two ends of a ring between two threads, as their callers see them: what the writer offered, and what the reader took.
-use Rattle.std.specs.Prelude.{◌≡◌, ℕ, ◌+◌, ◌-◌, ◌*◌, ◌%◌, ◌<◌, ◌^◌, ◌==◌, Bool, true, false, if◌then◌else◌, nat_lt}
+use Rattle.std.specs.Prelude.{◌≡◌, ℕ, ◌+◌, ◌-◌, ◌*◌, ◌%◌, ◌<◌, ◌≤◌, ◌^◌, ◌==◌, Bool, true, false, if◌then◌else◌, nat_lt}
 use Rattle.std.specs.Prelude.{List, [], ◌∷◌, ◌++◌, length, map}
 use Rattle.std.specs.List.{flat_map, AllByRecursion}
 use Rattle.atomic_table.specs.Seated.{TableId}
@@ -35,10 +35,11 @@ pub record WriterEnd : Type 0 where
   pub exchanges : ℕ
   pub found : ℕ
 
--- the writer that was closed: all offers
+-- the writer that was closed: all offers, and whether the end mark is stored
 pub record ClosedEnd : Type 0 where
   pub ring : RingOf
   pub offers : List Offer
+  pub marked : Bool
 
 -- The reader: of which ring it is; the records that it took, in order; its place, as the counts behind them. How often it loaded the
 -- end mark, overflow, `w` and the overflow time and exchanged overflow, and what it found last. Whether a look was made since the
@@ -251,12 +252,13 @@ acted reader records time found =
     acted_by (is_ahead reader) (has_loss reader) (found == reader.overflow) reader records time found
 
 -- What an act does, if these records lie between the reader's place and the `w` that was looked at: whole ones, and as many as the
--- tag counts say.
+-- tag counts say. The end mark that was looked at is 0 or 1, so that what isn't the end was looked at before it was marked.
 pub record Acts (old new : ReaderEnd) : Type 0 where
   pub records : List Offer
   pub whole : AllByRecursion (IsWhole old.ring.hdrsize) records
   pub counted : old.read_tags + length records ≡ tags_of old.written
   pub place : records ≡ [] → words_of old.written ≡ old.read_words
+  pub mark : old.end ≤ 1
   pub after : new ≡ acted old records new.time new.found
   pub ring : new.ring ≡ old.ring
   pub loads : new.loads ≡ old.loads

@@ -38,7 +38,7 @@ writer_end table v =
     }
 
 abbrev pub closed_end : TableId → View → ClosedEnd
-closed_end table v = record { ring = ring_of table v; offers = v.writer.offers }
+closed_end table v = record { ring = ring_of table v; offers = v.writer.offers; marked = v.writer.closed }
 
 -- what is held as the last answer
 abbrev pub found_of : (words labels : List ℕ) → Held → Found
@@ -117,9 +117,11 @@ pub record IsDeciding (table seat : TableId) (me : Me Unit View) (sizes : Sizes)
   pub words_loaded : IsLoaded me.0 loaded.r loaded.overflow
   pub may : MayWrite (writer_end table me.0) offer
 
+-- the writer's seat, once it stored the end mark
 pub record IsDone (table seat : TableId) (me : Me Unit View) : Type 0 where
   pub seat_is : seat ≡ table
   pub writes : me.0.writes ≡ true
+  pub closed : me.0.writer.closed ≡ true
   pub alone : me.1 ≡ []
 
 -- the reader's `r` has the counts behind the records that were taken
@@ -132,6 +134,7 @@ pub record IsReading (table seat : TableId) (me : Me Unit View) (sizes : Sizes) 
 -- the reader knows what lies before the `w` that it looked at, and has yet to load all of it
 pub record HasSeen (v : View) (end overflow w : ℕ) : Type 0 where
   pub end_is : v.reader.end ≡ end
+  pub end_most : end ≤ 1
   pub overflow_is : v.reader.overflow ≡ overflow
   pub written_is : v.reader.written ≡ w
   pub has_seen : v.reader.has_seen ≡ true

@@ -349,6 +349,7 @@ module _ {S : Type 0} where
   abbrev pub loaded_end : Step S → Me S View → ℕ → Me S View → Type 0
   loaded_end s before found after =
       (after ≡ (with_end before.0 found, before.1))
+      × (found ≤ 1)
       × (before.0.reader.is_over ≡ true → found ≡ 1)
       × (before.0.writes ≡ true → before.0.reader.is_over ≡ true → IsAll before.0)
 

@@ -509,6 +509,7 @@ pub(crate) fn load_end(shared: &RingWords, seat: &mut RingSeat) -> u64
     requires reads { seat.old.me.0.reads ≡ true }
     ensures table { seat.new.table_id ≡ seat.old.table_id }
     ensures view { seat.new.me ≡ (with_end seat.old.me.0 result, seat.old.me.1) }
+    ensures mark { result ≤ 1 }
     ensures over { seat.old.me.0.reader.is_over ≡ true → result ≡ 1 }
     ensures all { seat.old.me.0.writes ≡ true → seat.old.me.0.reader.is_over ≡ true → IsAll seat.old.me.0 }
 {

@@ -1,4 +1,4 @@
-ghost use Rattle.std.specs.Prelude.{◌≡◌, [], ◌∷◌, ◌++◌, length};
+ghost use Rattle.std.specs.Prelude.{◌≡◌, [], ◌∷◌, ◌++◌, length, true};
 ghost use Rattle.gp_layout.specs.Words as bits;
 ghost use Rattle.gp_ring.specs.Offered.{offer_of};
 ghost use Rattle.gp_ring.specs.TwoEnds.{MayWrite, with_found, wrote, written, written_words};
@@ -104,6 +104,7 @@ impl Writer {
     pub fn close(self) -> Closed
         ensures ring { result.ring ≡ self.ring }
         ensures offers { result.offers ≡ self.offers }
+        ensures marked { result.marked ≡ true }
     {
         let Writer {
             table,
