@@ -26,7 +26,7 @@ pub record RingOf : Type 0 where
 pub record WriterEnd : Type 0 where
   pub ring : RingOf
   pub offers : List Offer
-  pub kept : List Offer
+  pub records : List Offer
   pub since : ℕ
   pub loads : ℕ
   pub read : ℕ
@@ -67,7 +67,7 @@ first_writer ring =
     record {
       ring = ring;
       offers = [];
-      kept = [];
+      records = [];
       since = 0;
       loads = 0;
       read = 0;
@@ -108,7 +108,7 @@ pub record MayWrite (writer : WriterEnd) (offer : Offer) : Type 0 where
 
 -- the data count of the writer's own `w`
 abbrev pub written_words : WriterEnd → ℕ
-written_words writer = behind_all writer.ring.len 0 writer.kept
+written_words writer = behind_all writer.ring.len 0 writer.records
 
 -- `r` and overflow were loaded
 abbrev pub with_loads : WriterEnd → (read overflow : ℕ) → WriterEnd
@@ -139,10 +139,10 @@ has_won writer = writer.found == writer.overflow
 abbrev pub room_by : Bool → WriterEnd → Offer → Bool
 room_by false writer offer =
     room_for_one writer.ring.len writer.ring.tags (written_words writer - words_of writer.read)
-    (length writer.kept - tags_of writer.read) (written_words writer % writer.ring.len) (words_for writer.ring.hdrsize offer)
+    (length writer.records - tags_of writer.read) (written_words writer % writer.ring.len) (words_for writer.ring.hdrsize offer)
 room_by true writer offer =
     room_for_two writer.ring.len writer.ring.tags (written_words writer - words_of writer.read)
-    (length writer.kept - tags_of writer.read) (written_words writer % writer.ring.len) (loss_size writer.ring.hdrsize)
+    (length writer.records - tags_of writer.read) (written_words writer % writer.ring.len) (loss_size writer.ring.hdrsize)
     (words_for writer.ring.hdrsize offer)
 
 abbrev pub has_room : WriterEnd → Offer → Bool
@@ -161,7 +161,7 @@ wrote writer offer = wrote_by (has_room writer offer) (is_pending writer) (has_w
 -- and what it leaves: the record is written, behind the loss if that was pending still; or else the offer is lost, as one more of the
 -- pending loss if that was pending still, and as the first one of another if not
 abbrev pub with_kept : WriterEnd → Offer → List Offer → WriterEnd
-with_kept writer offer more = record writer { offers = writer.offers ++ offer ∷ []; kept = writer.kept ++ more }
+with_kept writer offer more = record writer { offers = writer.offers ++ offer ∷ []; records = writer.records ++ more }
 
 abbrev pub with_lost : WriterEnd → Offer → ℕ → WriterEnd
 with_lost writer offer since = record writer { offers = writer.offers ++ offer ∷ []; since = since }

@@ -59,7 +59,7 @@ impl Writer {
     /// The word `w`: the data count and the tag count of what was written.
     pub fn written_word(&self) -> u64
         ensures words { bits.words_of result ≡ written_words self.now }
-        ensures tags { bits.tags_of result ≡ length self.now.kept }
+        ensures tags { bits.tags_of result ≡ length self.now.records }
     {
         self.pen.w
     }
