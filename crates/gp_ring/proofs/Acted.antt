@@ -12,7 +12,7 @@ use Rattle.gp_ring.specs.PlainRing.{Found, Batch, Taken, Raced, Nothing, End, pi
 use Rattle.gp_ring.specs.Counts.{behind_all}
 use Rattle.gp_ring.specs.Course.{loss_offer, records_for}
 use Rattle.gp_ring.specs.TwoEnds.{ReaderEnd, Acts, acted_by, acted, is_ahead, has_loss}
-use Rattle.gp_ring.specs.kept.Views.{with_due, with_due_labels, with_batch, with_time, with_loss, without_loss}
+use Rattle.gp_ring.specs.kept.Views.{with_due, with_due_tags, with_batch, with_time, with_loss, without_loss}
 use Rattle.gp_ring.specs.kept.Halves.{reader_end, IsAt, IsReading, HasSeen}
 use Rattle.gp_ring.specs.declared.between.view.View.{View}
 use Rattle.gp_ring.specs.declared.between.steps.Sizes.{Sizes}
@@ -33,7 +33,7 @@ differs a b e = grind (arith, nat_tests)
 
 -- the view after a batch
 abbrev pub with_taken : View → View
-with_taken v = with_batch (with_due_labels (with_due v []) [])
+with_taken v = with_batch (with_due_tags (with_due v []) [])
 
 acted-is : (old : ReaderEnd) (records : List Offer) (time found : ℕ) (a l w : Bool) → is_ahead old ≡ a → has_loss old ≡ l → (found == old.overflow) ≡ w
     → acted old records time found ≡ acted_by a l w old records time found
@@ -52,6 +52,7 @@ module _ (table : TableId) (v : View) (hand : Found) (r end overflow w : ℕ) (s
     records = v.reader.ahead;
     whole = s.seen.whole;
     counted = (let t = s.seen.tags in let l = length-append v.reader.pulled v.reader.ahead in let x : tags_of v.reader.written ≡ tags_of w = ap tags_of s.written_is in omega arith);
+    mark = (let m = s.end_most in let x = s.end_is in omega arith);
     place = λ n. ap words_of s.written_is ∙ s.seen.words ∙ ap (λ (os : List Offer). behind_all v.len 0 (v.reader.pulled ++ os)) n ∙ ap (behind_all v.len 0) (append-nil v.reader.pulled);
     after = e;
     ring = g;
@@ -72,10 +73,10 @@ module _ (table : TableId) (v : View) (hand : Found) (r end overflow w : ℕ) (s
   no_loss_is h = lt_no 0 (count_of v.reader.overflow) (subst (λ (k : ℕ). count_of k ≤ 0) (sym s.overflow_is) h)
 
   -- a batch is taken
-  pub batch-acts : (v2 : View) (words labels : List ℕ) → tags_of r < tags_of w → v2 ≡ with_taken v → words ≡ flat_map (λ (o : Offer). (piece_for o).words) v.reader.ahead → labels ≡ map (λ (o : Offer). o.tag) v.reader.ahead
-      → Acts (reader_end table v true hand) (reader_end table v2 false (Batch words labels))
-  batch-acts v2 words labels some e we le = subst (λ (x : View). Acts (reader_end table v true hand) (reader_end table x false (Batch words labels))) (sym e)
-      (acts-so (reader_end table (with_taken v) false (Batch words labels)) refl refl refl
+  pub batch-acts : (v2 : View) (words tag_words : List ℕ) → tags_of r < tags_of w → v2 ≡ with_taken v → words ≡ flat_map (λ (o : Offer). (piece_for o).words) v.reader.ahead → tag_words ≡ map (λ (o : Offer). o.tag) v.reader.ahead
+      → Acts (reader_end table v true hand) (reader_end table v2 false (Batch words tag_words))
+  batch-acts v2 words tag_words some e we le = subst (λ (x : View). Acts (reader_end table v true hand) (reader_end table x false (Batch words tag_words))) (sym e)
+      (acts-so (reader_end table (with_taken v) false (Batch words tag_words)) refl refl refl
       ((λ i. record (reader_end table v false (Batch (we i) (le i))) {
         taken = for-append v.hdrsize v.reader.taken v.reader.ahead i;
         read_words = (sym s.seen.words ∙ ap words_of (sym s.written_is)) i;

@@ -94,15 +94,15 @@ raise-both at len first need within fits =
 -- a record of an offer was written
 pub delivered-ready : (v : View) (w since w2 len size : ℕ) (o : Offer) → len ≡ v.len → length (piece_for o).words ≡ size → IsRaised w w2 len size → IsReady v w since → IsReady (with_delivered (with_draft v o) o) w2 since
 delivered-ready v w since w2 len size o l z up k =
-    let count : behind_all v.len 0 (v.writer.kept ++ o ∷ []) ≡ behind v.len (behind_all v.len 0 v.writer.kept) o = behind-append v.len 0 v.writer.kept (o ∷ []) in
-    let tag_count : length (v.writer.kept ++ o ∷ []) ≡ length v.writer.kept + 1 = length-append v.writer.kept (o ∷ []) in
+    let count : behind_all v.len 0 (v.writer.records ++ o ∷ []) ≡ behind v.len (behind_all v.len 0 v.writer.records) o = behind-append v.len 0 v.writer.records (o ∷ []) in
+    let tag_count : length (v.writer.records ++ o ∷ []) ≡ length v.writer.records + 1 = length-append v.writer.records (o ∷ []) in
     record {
       draft = refl;
-      label = refl;
+      tag_draft = refl;
       next = (λ i. (k.next i + skip_of (k.next i % v.len) v.len (length (piece_for o).words)) + length (piece_for o).words)
-          ∙ assoc (behind_all v.len 0 v.writer.kept) (skip_of (behind_all v.len 0 v.writer.kept % v.len) v.len (length (piece_for o).words)) (length (piece_for o).words)
+          ∙ assoc (behind_all v.len 0 v.writer.records) (skip_of (behind_all v.len 0 v.writer.records % v.len) v.len (length (piece_for o).words)) (length (piece_for o).words)
           ∙ sym count;
-      next_label = ap (λ (n : ℕ). n + 1) k.next_label ∙ sym tag_count;
+      next_tag = ap (λ (n : ℕ). n + 1) k.next_tag ∙ sym tag_count;
       written_words = up.words ∙ (λ i. k.written_words i + raise_of (k.written_words i % l i) (l i) (sym z i)) ∙ sym count;
       written_tags = up.tags ∙ ap (λ (n : ℕ). n + 1) k.written_tags ∙ sym tag_count;
       none_owed = k.none_owed;
@@ -117,14 +117,14 @@ delivered-ready v w since w2 len size o l z up k =
 pub paid-ready : (v : View) (w since w2 len size word found : ℕ) → len ≡ v.len → loss_size v.hdrsize ≡ size → IsRaised w w2 len size → IsReady v w since
     → IsReady (with_paid (with_draft (with_exchange (with_owed v word) found) (owed_of (with_exchange (with_owed v word) found)))) w2 since
 paid-ready v w since w2 len size word found l z up k =
-    let o = loss_offer v.hdrsize (count_of v.writer.flow) v.writer.since in
-    let sized : length (piece_for (loss_offer v.hdrsize (count_of v.writer.flow) v.writer.since)).words ≡ size = loss-length v.hdrsize (count_of v.writer.flow) v.writer.since ∙ z in
-    let r = delivered-ready v w since w2 len size (loss_offer v.hdrsize (count_of v.writer.flow) v.writer.since) l sized up k in
+    let o = loss_offer v.hdrsize (count_of v.writer.present) v.writer.since in
+    let sized : length (piece_for (loss_offer v.hdrsize (count_of v.writer.present) v.writer.since)).words ≡ size = loss-length v.hdrsize (count_of v.writer.present) v.writer.since ∙ z in
+    let r = delivered-ready v w since w2 len size (loss_offer v.hdrsize (count_of v.writer.present) v.writer.since) l sized up k in
     record {
       draft = refl;
-      label = refl;
+      tag_draft = refl;
       next = r.next;
-      next_label = r.next_label;
+      next_tag = r.next_tag;
       written_words = r.written_words;
       written_tags = r.written_tags;
       none_owed = refl;
@@ -136,9 +136,9 @@ paid-ready v w since w2 len size word found l z up k =
 pub raced-ready : (v : View) (w since found : ℕ) → IsReady v w since → IsReady (with_raced v found) w since
 raced-ready v w since found k = record {
   draft = k.draft;
-  label = k.label;
+  tag_draft = k.tag_draft;
   next = k.next;
-  next_label = k.next_label;
+  next_tag = k.next_tag;
   written_words = k.written_words;
   written_tags = k.written_tags;
   none_owed = k.none_owed;
@@ -150,9 +150,9 @@ raced-ready v w since found k = record {
 pub begun-ready : (v : View) (w since now word : ℕ) (o : Offer) → IsReady v w since → IsReady (with_lost (with_since v now) o word) w now
 begun-ready v w since now word o k = record {
   draft = k.draft;
-  label = k.label;
+  tag_draft = k.tag_draft;
   next = k.next;
-  next_label = k.next_label;
+  next_tag = k.next_tag;
   written_words = k.written_words;
   written_tags = k.written_tags;
   none_owed = k.none_owed;
@@ -163,9 +163,9 @@ begun-ready v w since now word o k = record {
 pub counted-ready : (v : View) (w since word found : ℕ) (o : Offer) → IsReady v w since → IsReady (with_exchange (with_lost v o word) found) w since
 counted-ready v w since word found o k = record {
   draft = k.draft;
-  label = k.label;
+  tag_draft = k.tag_draft;
   next = k.next;
-  next_label = k.next_label;
+  next_tag = k.next_tag;
   written_words = k.written_words;
   written_tags = k.written_tags;
   none_owed = k.none_owed;
@@ -208,7 +208,7 @@ module _ (W : WriterEnd) (o : Offer) (f : ℕ) where
 
 module _ (table seat : TableId) (me : Me Unit View) (sizes : Sizes) (pen : Pen) (loaded : Loaded) (zeros : List ℕ) (tag now : ℕ) (header stack : List ℕ)
     (d : IsDeciding table seat me sizes pen loaded zeros (offer_of tag now header stack)) where
-  bounded : IsBounded me.0.hdrsize me.0.writer.offers (behind_all me.0.len 0 me.0.writer.kept) (length me.0.writer.kept) (count_of loaded.overflow) me.0.writer.owed (change_of loaded.overflow)
+  bounded : IsBounded me.0.hdrsize me.0.writer.offers (behind_all me.0.len 0 me.0.writer.records) (length me.0.writer.records) (count_of loaded.overflow) me.0.writer.owed (change_of loaded.overflow)
   bounded = d.words_loaded.counted.bounded
 
   header_is : length header ≡ me.0.hdrsize
@@ -346,17 +346,17 @@ module _ (table seat : TableId) (me : Me Unit View) (sizes : Sizes) (pen : Pen) 
         | false ↦ λ _. refl
         | true ↦ λ e.
             let before = fits_less me.0.hdrsize me.0.len me.0.tags me.0.writer.offers (offer_of tag now header stack) e in
-            let words : behind_all me.0.len 0 me.0.writer.kept ≤ 2 * words_for_all me.0.hdrsize me.0.writer.offers = (d.words_loaded.counted.fits before).1 in
+            let words : behind_all me.0.len 0 me.0.writer.records ≤ 2 * words_for_all me.0.hdrsize me.0.writer.offers = (d.words_loaded.counted.fits before).1 in
             let p = fit-parts me.0.hdrsize me.0.len me.0.tags (me.0.writer.offers ++ offer_of tag now header stack ∷ []) e in
             let n = length-append me.0.writer.offers (offer_of tag now header stack ∷ []) in
             let w = words-append me.0.hdrsize me.0.writer.offers (offer_of tag now header stack) in
             let k = bounded.records_most in
-            let up = raise-le (behind_all me.0.len 0 me.0.writer.kept % me.0.len) me.0.len (words_for me.0.hdrsize (offer_of tag now header stack)) in
-            let room : room_for_one me.0.len me.0.tags (behind_all me.0.len 0 me.0.writer.kept - words_of me.0.writer.read) (length me.0.writer.kept - tags_of me.0.writer.read) (behind_all me.0.len 0 me.0.writer.kept % me.0.len) (words_for me.0.hdrsize (offer_of tag now header stack)) ≡ true =
-            and_from (nat_le ((length me.0.writer.kept - tags_of me.0.writer.read) + 1) me.0.tags)
-            (nat_le ((behind_all me.0.len 0 me.0.writer.kept - words_of me.0.writer.read) + raise_of (behind_all me.0.len 0 me.0.writer.kept % me.0.len) me.0.len (words_for me.0.hdrsize (offer_of tag now header stack))) me.0.len)
-            (le_is ((length me.0.writer.kept - tags_of me.0.writer.read) + 1) me.0.tags (omega arith))
-            (le_is ((behind_all me.0.len 0 me.0.writer.kept - words_of me.0.writer.read) + raise_of (behind_all me.0.len 0 me.0.writer.kept % me.0.len) me.0.len (words_for me.0.hdrsize (offer_of tag now header stack))) me.0.len (omega arith)) in
+            let up = raise-le (behind_all me.0.len 0 me.0.writer.records % me.0.len) me.0.len (words_for me.0.hdrsize (offer_of tag now header stack)) in
+            let room : room_for_one me.0.len me.0.tags (behind_all me.0.len 0 me.0.writer.records - words_of me.0.writer.read) (length me.0.writer.records - tags_of me.0.writer.read) (behind_all me.0.len 0 me.0.writer.records % me.0.len) (words_for me.0.hdrsize (offer_of tag now header stack)) ≡ true =
+            and_from (nat_le ((length me.0.writer.records - tags_of me.0.writer.read) + 1) me.0.tags)
+            (nat_le ((behind_all me.0.len 0 me.0.writer.records - words_of me.0.writer.read) + raise_of (behind_all me.0.len 0 me.0.writer.records % me.0.len) me.0.len (words_for me.0.hdrsize (offer_of tag now header stack))) me.0.len)
+            (le_is ((length me.0.writer.records - tags_of me.0.writer.read) + 1) me.0.tags (omega arith))
+            (le_is ((behind_all me.0.len 0 me.0.writer.records - words_of me.0.writer.read) + raise_of (behind_all me.0.len 0 me.0.writer.records % me.0.len) me.0.len (words_for me.0.hdrsize (offer_of tag now header stack))) me.0.len (omega arith)) in
             absurd (differ (sym b ∙ (λ i. room_by (none-pending z i) (writer_end table me.0) (offer_of tag now header stack)) ∙ room))
       ] refl
 
@@ -449,18 +449,18 @@ module _ (old new : WriterEnd) (o : Offer) (read overflow : ℕ) (after : new �
 -- an offer may be made, once `r` and overflow were loaded
 pub deciding : (table seat seat2 : TableId) (me me1 me2 : Me Unit View) (sizes : Sizes) (pen : Pen) (overflow r : ℕ) (zeros : List ℕ) (o : Offer) → IsWriting table seat me sizes pen.w pen.since zeros
     → MayWrite (writer_end table me.0) o → seat2 ≡ seat → me1 ≡ (with_overflow me.0 overflow, me.1) → IsCounted me.0 overflow → me2 ≡ (with_read me1.0 r, me1.1)
-    → IsWithin me1.0.len me1.0.tags r (behind_all me1.0.len 0 me1.0.writer.kept) (length me1.0.writer.kept)
+    → IsWithin me1.0.len me1.0.tags r (behind_all me1.0.len 0 me1.0.writer.records) (length me1.0.writer.records)
     → IsDeciding table seat2 me2 sizes pen (record { r = r; overflow = overflow }) zeros o
 deciding table seat seat2 me me1 me2 sizes pen overflow r zeros o k m s e1 counted e2 within =
     let e : me2 ≡ (with_read (with_overflow me.0 overflow) r, me.1) = e2 ∙ (λ i. (with_read (e1 i).0 r, (e1 i).1)) in
-    let within' : IsWithin me.0.len me.0.tags r (behind_all me.0.len 0 me.0.writer.kept) (length me.0.writer.kept) =
-    subst (λ (x : Me Unit View). IsWithin x.0.len x.0.tags r (behind_all x.0.len 0 x.0.writer.kept) (length x.0.writer.kept)) e1 within in
+    let within' : IsWithin me.0.len me.0.tags r (behind_all me.0.len 0 me.0.writer.records) (length me.0.writer.records) =
+    subst (λ (x : Me Unit View). IsWithin x.0.len x.0.tags r (behind_all x.0.len 0 x.0.writer.records) (length x.0.writer.records)) e1 within in
     let q = k.ready in
     let ready : IsReady (with_read (with_overflow me.0 overflow) r) pen.w pen.since = record {
       draft = q.draft;
-      label = q.label;
+      tag_draft = q.tag_draft;
       next = q.next;
-      next_label = q.next_label;
+      next_tag = q.next_tag;
       written_words = q.written_words;
       written_tags = q.written_tags;
       none_owed = q.none_owed;
@@ -472,7 +472,7 @@ deciding table seat seat2 me me1 me2 sizes pen overflow r zeros o k m s e1 count
       words_loaded = subst (λ (x : Me Unit View). IsLoaded x.0 r overflow) (sym e) (record {
         read = refl;
         overflow_is = refl;
-        flow = refl;
+        present = refl;
         within = within';
         counted = record { bounded = counted.bounded; fits = counted.fits };
       });
@@ -520,12 +520,12 @@ module _ (table seat : TableId) (me : Me Unit View) (sizes : Sizes) (pen : Pen) 
       → me2 ≡ (with_delivered (with_draft (with_paid (with_draft (with_exchange (with_owed me.0 word) f) (owed_of (with_exchange (with_owed me.0 word) f)))) (offer_of tag now header stack)) (offer_of tag now header stack), me.1)
       → writer_end table me2.0 ≡ written (tried (writer_end table me.0) f) (offer_of tag now header stack)
   both-kept-after me2 word p b e q =
-      let flow : me.0.writer.flow ≡ me.0.writer.overflow = d.words_loaded.flow ∙ sym d.words_loaded.overflow_is in
-      let kept : (me.0.writer.kept ++ loss_offer me.0.hdrsize (count_of me.0.writer.flow) me.0.writer.since ∷ []) ++ offer_of tag now header stack ∷ [] ≡ me.0.writer.kept ++ (loss_offer me.0.hdrsize (count_of me.0.writer.overflow) me.0.writer.since ∷ offer_of tag now header stack ∷ []) =
-      append_assoc me.0.writer.kept (loss_offer me.0.hdrsize (count_of me.0.writer.flow) me.0.writer.since ∷ []) (offer_of tag now header stack ∷ [])
-      ∙ (λ i. me.0.writer.kept ++ (loss_offer me.0.hdrsize (count_of (flow i)) me.0.writer.since ∷ offer_of tag now header stack ∷ [])) in
+      let present : me.0.writer.present ≡ me.0.writer.overflow = d.words_loaded.present ∙ sym d.words_loaded.overflow_is in
+      let records : (me.0.writer.records ++ loss_offer me.0.hdrsize (count_of me.0.writer.present) me.0.writer.since ∷ []) ++ offer_of tag now header stack ∷ [] ≡ me.0.writer.records ++ (loss_offer me.0.hdrsize (count_of me.0.writer.overflow) me.0.writer.since ∷ offer_of tag now header stack ∷ []) =
+      append_assoc me.0.writer.records (loss_offer me.0.hdrsize (count_of me.0.writer.present) me.0.writer.since ∷ []) (offer_of tag now header stack ∷ [])
+      ∙ (λ i. me.0.writer.records ++ (loss_offer me.0.hdrsize (count_of (present i)) me.0.writer.since ∷ offer_of tag now header stack ∷ [])) in
       (λ i. writer_end table (q i).0)
-      ∙ (λ i. record (with_kept (tried_by true (writer_end table me.0) f) (offer_of tag now header stack) []) { kept = kept i })
+      ∙ (λ i. record (with_kept (tried_by true (writer_end table me.0) f) (offer_of tag now header stack) []) { records = records i })
       ∙ sym (written-behind (writer_end table me.0) (offer_of tag now header stack) f true true (some-pending table seat me sizes pen loaded zeros tag now header stack d p) b (won_is e))
 
   pub counted-answer : 0 < count_of loaded.overflow → has_room (writer_end table me.0) (offer_of tag now header stack) ≡ false → f ≡ loaded.overflow → Lost loaded.r loaded.overflow ≡ wrote (tried (writer_end table me.0) f) (offer_of tag now header stack)

@@ -53,8 +53,8 @@ pub kept-taken : (h : ℕ) (slots tags batch batch_tags zeros : List ℕ) (r w o
 kept-taken h slots tags batch batch_tags zeros r w overflow o2 seen old k z =
     record { sized = k.sized; r_word = k.r_word; spelled = k.spelled; seen_front = k.seen_front; change_fits = λ p. absurd (omega arith); in_hand = k.in_hand }
 
-made : (hdrsize : ℕ) (r overflow since : ℕ) (ended : Bool) (seen : Option Seen) (len tags : ℕ) (unread : List Piece) (words labels : ℕ) → PlainRing
-made hdrsize r overflow since ended seen len tags unread words labels =
+made : (hdrsize : ℕ) (r overflow since : ℕ) (ended : Bool) (seen : Option Seen) (len tags : ℕ) (unread : List Piece) (words tag_count : ℕ) → PlainRing
+made hdrsize r overflow since ended seen len tags unread words tag_count =
     record {
       hdrsize = hdrsize;
       len = len;
@@ -66,7 +66,7 @@ made hdrsize r overflow since ended seen len tags unread words labels =
       read_words = words_of r;
       read_tags = tags_of r;
       written_words = words;
-      written_tags = labels;
+      written_tags = tag_count;
       ended = ended;
       seen = seen;
       hand = Nothing;

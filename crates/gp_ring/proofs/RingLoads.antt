@@ -66,21 +66,21 @@ rest-run c (w ∷ ws) rest = rest-run (c + 1) ws rest
 
 -- ---- tags, round and round
 
-pub label-due : (c width i : ℕ) (ws : List ℕ) → i < length ws → IsDueAt ((c + i) % width) width (drop i (from_count c ws))
-label-due c width i [] h = absurd (omega arith)
-label-due c width zero (w ∷ ws) h = ap (λ (k : ℕ). k % width) (plus_none c)
-label-due c width (suc i) (w ∷ ws) h = subst (λ (k : ℕ). IsDueAt (k % width) width (drop i (from_count (c + 1) ws))) (plus_one c i) (label-due (c + 1) width i ws (omega arith))
+pub tag-due : (c width i : ℕ) (ws : List ℕ) → i < length ws → IsDueAt ((c + i) % width) width (drop i (from_count c ws))
+tag-due c width i [] h = absurd (omega arith)
+tag-due c width zero (w ∷ ws) h = ap (λ (k : ℕ). k % width) (plus_none c)
+tag-due c width (suc i) (w ∷ ws) h = subst (λ (k : ℕ). IsDueAt (k % width) width (drop i (from_count (c + 1) ws))) (plus_one c i) (tag-due (c + 1) width i ws (omega arith))
 
-pub label-is : (c i : ℕ) (ws : List ℕ) → i < length ws → first_word (drop i (from_count c ws)) ≡ get_or ws i 0
-label-is c i [] h = absurd (omega arith)
-label-is c zero (w ∷ ws) h = refl
-label-is c (suc i) (w ∷ ws) h = label-is (c + 1) i ws (omega arith)
+pub tag-is : (c i : ℕ) (ws : List ℕ) → i < length ws → first_word (drop i (from_count c ws)) ≡ get_or ws i 0
+tag-is c i [] h = absurd (omega arith)
+tag-is c zero (w ∷ ws) h = refl
+tag-is c (suc i) (w ∷ ws) h = tag-is (c + 1) i ws (omega arith)
 
-pub labels-end : (c n : ℕ) (ws : List ℕ) → n ≡ length ws → drop n (from_count c ws) ≡ []
-labels-end c zero [] e = refl
-labels-end c (suc n) [] e = refl
-labels-end c zero (w ∷ ws) e = absurd (omega arith)
-labels-end c (suc n) (w ∷ ws) e = labels-end (c + 1) n ws (omega arith)
+pub tags-end : (c n : ℕ) (ws : List ℕ) → n ≡ length ws → drop n (from_count c ws) ≡ []
+tags-end c zero [] e = refl
+tags-end c (suc n) [] e = refl
+tags-end c zero (w ∷ ws) e = absurd (omega arith)
+tags-end c (suc n) (w ∷ ws) e = tags-end (c + 1) n ws (omega arith)
 
 -- ---- a record
 

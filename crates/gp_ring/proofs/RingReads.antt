@@ -15,22 +15,22 @@ use Rattle.gp_layout.specs.Words.{words_of, tags_of, count_of, change_of}
 use Rattle.gp_ring.specs.Records.{Offer, RingRecord, Covers}
 use Rattle.gp_ring.specs.Counts.{behind_all}
 use Rattle.gp_ring.specs.Course.{Course, first_course, kept_of, loss_offer, records_for, IsWhole, StartsWithHead, with_batch as batch_taken, lifted}
-use Rattle.gp_ring.specs.kept.Traces.{all_laid, labels_from, Stands, first_word, IsDueAt}
-use Rattle.gp_ring.specs.kept.Views.{first_view, nobody, writer_of, reader_of, with_writer, with_end, with_flow, is_none, with_ahead, without_words, without_labels, with_batch, with_time, loss_of, with_loss, without_loss}
-use Rattle.gp_ring.specs.kept.Views.{IsAhead, IsAll, loaded_end, loaded_flow, loaded_written, loaded_word, loaded_label, stored_read, loaded_since, exchanged_loss}
+use Rattle.gp_ring.specs.kept.Traces.{all_laid, tags_from, Stands, first_word, IsDueAt}
+use Rattle.gp_ring.specs.kept.Views.{first_view, nobody, writer_of, reader_of, with_writer, with_end, with_pending, is_none, with_ahead, without_words, without_tags, with_batch, with_time, loss_of, with_loss, without_loss}
+use Rattle.gp_ring.specs.kept.Views.{IsAhead, IsAll, loaded_end, loaded_pending, loaded_written, loaded_word, loaded_tag, stored_read, loaded_since, exchanged_loss}
 use Rattle.gp_ring.specs.kept.RingRule.{Desk, Past, AreWords, AreNumbers, IsWriterIn, IsReaderIn, IsStanding, IsSizedAs, Fits, AllFit, IsRing, words_pulled}
 use Rattle.gp_ring.specs.declared.between.view.View.{View}
 use Rattle.gp_ring.specs.declared.between.view.ReaderView.{ReaderView}
-use Rattle.gp_ring.proofs.Tracing.{AreFrom, laid-append, labels-append, from-right, from-laid, from-labels, stands-left, stands-right, due-word, shorter}
+use Rattle.gp_ring.proofs.Tracing.{AreFrom, laid-append, tags_from-append, from-right, from-laid, from-tags, stands-left, stands-right, due-word, shorter}
 use Rattle.gp_ring.proofs.CourseLaws.{first-sound, batch-sound, lifted-sound, none-all}
-use Rattle.gp_ring.proofs.RingWords.{store-read, store-flow}
+use Rattle.gp_ring.proofs.RingWords.{store-read, store-present}
 use Rattle.gp_ring.proofs.RingViews.{off, at_end, all_set, no_writer, no_reader, reader_goes, writer-batch, writer-lifted, none_left, earlier_self}
 use Rattle.gp_ring.proofs.RingSteps.{Goes, same_words, won_is, raced_is, same_or}
 
 -- all views, when the reader knows more, and nothing else changed
-reads_on : (past : Past) (views : List View) (seat : ℕ) (v : View) (reader : ReaderView) → AllFit past views → get_elem? views seat ≡ some v → v.reads ≡ true → IsReaderIn past.course past.flow reader
+reads_on : (past : Past) (views : List View) (seat : ℕ) (v : View) (reader : ReaderView) → AllFit past views → get_elem? views seat ≡ some v → v.reads ≡ true → IsReaderIn past.course past.present reader
     → AllFit past (slice_set views seat (record v { reader = reader }))
-reads_on past views seat v reader fit at reads new = reader_goes past past.course past.flow views seat v reader (refl, refl, refl) (λ w g. g) fit at reads new
+reads_on past views seat v reader fit at reads new = reader_goes past past.course past.present views seat v reader (refl, refl, refl) (λ w g. g) fit at reads new
 
 -- ---- the end mark is loaded
 
@@ -41,8 +41,8 @@ ended_is false k e f = absurd (omega arith)
 is_ended : (b : Bool) (k : ℕ) → k ≡ (if b then 1 else 0) → b ≡ true → k ≡ 1
 is_ended b k e f = e ∙ ap (λ (c : Bool). if c then 1 else 0) f
 
-all_is : (course : Course) (desk : Desk) (flow : ℕ) (v : View) → AreNumbers course desk flow → IsSizedAs course v → IsWriterIn course desk flow v.writer → IsReaderIn course flow v.reader → v.reader.is_over ≡ true → IsAll v
-all_is course desk flow v n z f g over =
+all_is : (course : Course) (desk : Desk) (present : ℕ) (v : View) → AreNumbers course desk present → IsSizedAs course v → IsWriterIn course desk present v.writer → IsReaderIn course present v.reader → v.reader.is_over ≡ true → IsAll v
+all_is course desk present v n z f g over =
     let o = g.over over in
     let q = n.ended o.0 in
     let same : records_for course.hdrsize (course.taken ++ course.unread) ≡ records_for v.hdrsize v.reader.taken =
@@ -53,16 +53,20 @@ all_is course desk flow v n z f g over =
       begins = subst (λ (x : ℕ × ℕ × ℕ × List Offer × List RingRecord). StartsWithHead x.0 x.1 x.2 x.3 x.4) (λ i. (sym z.0 i, sym z.1 i, sym z.2 i, sym f.offers i, same i)) n.sound.begins;
     }
 
+end_most : (b : Bool) (k : ℕ) → k ≡ (if b then 1 else 0) → k ≤ 1
+end_most true k e = omega arith
+end_most false k e = omega arith
+
 pub loads_end : {S : Type 0} (slots seat : ℕ) (me : Me S View) (st : Step S) → me.0.reads ≡ true → Allows IsRing slots seat me 4 (λ x. x) (loaded_end st me)
 loads_end slots seat me st reads s h count at bits =
     let fits = h.3 seat me.0 at in
     let f = fits.reader reads in
-    let new : IsReaderIn h.0.course h.0.flow (record me.0.reader { end_loads = me.0.reader.end_loads + 1; end = slice_index s.words 4 }) = record {
+    let new : IsReaderIn h.0.course h.0.present (record me.0.reader { end_loads = me.0.reader.end_loads + 1; end = slice_index s.words 4 }) = record {
       taken = f.2.taken;
       pulled = f.2.pulled;
       ahead = f.2.ahead;
       due = f.2.due;
-      due_labels = f.2.due_labels;
+      due_tags = f.2.due_tags;
       earlier = f.2.earlier;
       found_earlier = f.2.found_earlier;
       seen = f.2.seen;
@@ -78,8 +82,9 @@ loads_end slots seat me st reads s h count at bits =
       (h.0, same_words 4 s.words h.0 h.1, h.2, reads_on h.0 s.views seat me.0 (record me.0.reader { end_loads = me.0.reader.end_loads + 1; end = slice_index s.words 4 }) h.3 at reads new),
       (
         refl,
+        end_most h.0.course.ended (slice_index s.words 4) h.1.counts.end_is,
         (λ e. is_ended h.0.course.ended (slice_index s.words 4) h.1.counts.end_is (f.2.over e).0),
-        (λ w e. (let g = fits.writer w in all_is h.0.course h.0.desk h.0.flow me.0 h.2 f.1 g.2 f.2 e)),
+        (λ w e. (let g = fits.writer w in all_is h.0.course h.0.desk h.0.present me.0 h.2 f.1 g.2 f.2 e)),
       ),
     )
 
@@ -91,17 +96,17 @@ is_one k e = grind (arith, nat_tests)
 is_zero : (k : ℕ) → (k == 0) ≡ true → k ≡ 0
 is_zero k e = grind (arith, nat_tests)
 
-pub loads_flow : {S : Type 0} (slots seat : ℕ) (me : Me S View) (st : Step S) → me.0.reads ≡ true → Allows IsRing slots seat me 2 (λ x. x) (loaded_flow st me)
-loads_flow slots seat me st reads s h count at bits =
+pub loads_pending : {S : Type 0} (slots seat : ℕ) (me : Me S View) (st : Step S) → me.0.reads ≡ true → Allows IsRing slots seat me 2 (λ x. x) (loaded_pending st me)
+loads_pending slots seat me st reads s h count at bits =
     let f = (h.3 seat me.0 at).reader reads in
-    let found = h.1.counts.flow_is in
-    let new : IsReaderIn h.0.course h.0.flow (with_flow me.0 (slice_index s.words 2)).reader = record {
+    let found = h.1.counts.present_is in
+    let new : IsReaderIn h.0.course h.0.present (with_pending me.0 (slice_index s.words 2)).reader = record {
       taken = f.2.taken;
       pulled = f.2.pulled;
       ahead = f.2.ahead;
       due = f.2.due;
-      due_labels = f.2.due_labels;
-      earlier = earlier_self (slice_index s.words 2) h.0.flow found;
+      due_tags = f.2.due_tags;
+      earlier = earlier_self (slice_index s.words 2) h.0.present found;
       found_earlier = f.2.found_earlier;
       seen = λ _ e. absurd (off e);
       timed = λ _ e. absurd (off e);
@@ -113,10 +118,10 @@ loads_flow slots seat me st reads s h count at bits =
     let few : length h.0.course.offers ≤ 2 ^ 30 = h.2.sound.bounded.few in
     let most : h.0.course.change ≤ 2 * length h.0.course.offers = h.2.sound.bounded.change_most in
     let is : change_of (slice_index s.words 2) ≡ h.0.course.change = ap change_of found ∙ h.2.change in (
-      with_flow me.0 (slice_index s.words 2),
+      with_pending me.0 (slice_index s.words 2),
       keeps,
       tt,
-      (h.0, same_words 2 s.words h.0 h.1, h.2, reads_on h.0 s.views seat me.0 (with_flow me.0 (slice_index s.words 2)).reader h.3 at reads new),
+      (h.0, same_words 2 s.words h.0 h.1, h.2, reads_on h.0 s.views seat me.0 (with_pending me.0 (slice_index s.words 2)).reader h.3 at reads new),
       (refl, omega arith, (λ e. ap count_of found ∙ h.2.pending ∙ (f.2.over e).1)),
     )
 
@@ -130,9 +135,9 @@ none_is : (os : List Offer) → is_none os ≡ true → os ≡ []
 none_is [] e = refl
 none_is (o ∷ os) e = absurd (off e)
 
-over_now : (course : Course) (desk : Desk) (flow : ℕ) (r : ReaderView) → AreNumbers course desk flow → IsReaderIn course flow r
+over_now : (course : Course) (desk : Desk) (present : ℕ) (r : ReaderView) → AreNumbers course desk present → IsReaderIn course present r
     → (r.is_over || (r.is_last && (count_of r.overflow == 0) && is_none course.unread)) ≡ true → (course.ended ≡ true) × (course.pending ≡ 0) × (course.unread ≡ [])
-over_now course desk flow r n f e = ⊎_elim
+over_now course desk present r n f e = ⊎_elim
     (λ (o : r.is_over ≡ true). f.over o)
     (λ (l : (r.is_last && (count_of r.overflow == 0) && is_none course.unread) ≡ true).
     let p = and_parts (r.is_last && (count_of r.overflow == 0)) (is_none course.unread) l in
@@ -145,12 +150,12 @@ pub loads_written : {S : Type 0} (slots seat : ℕ) (me : Me S View) (st : Step 
 loads_written slots seat me st reads s h count at bits =
     let f = (h.3 seat me.0 at).reader reads in
     let w = slice_index s.words 1 in
-    let new : IsReaderIn h.0.course h.0.flow (with_ahead me.0 (slice_index s.words 1) h.0.course.unread).reader = record {
+    let new : IsReaderIn h.0.course h.0.present (with_ahead me.0 (slice_index s.words 1) h.0.course.unread).reader = record {
       taken = f.2.taken;
       pulled = f.2.pulled;
       ahead = ([], append-nil h.0.course.unread);
       due = ([], (λ i. all_laid (f.1.1 i) (behind_all (f.1.1 i) 0 (f.2.pulled i)) h.0.course.unread));
-      due_labels = ([], (λ i. labels_from (length (f.2.pulled i)) h.0.course.unread));
+      due_tags = ([], (λ i. tags_from (length (f.2.pulled i)) h.0.course.unread));
       earlier = f.2.earlier;
       found_earlier = f.2.found_earlier;
       seen = λ _ _. refl;
@@ -158,12 +163,12 @@ loads_written slots seat me st reads s h count at bits =
       end_found = f.2.end_found;
       last = f.2.last;
       last_seen = λ _ _. refl;
-      over = λ e. over_now h.0.course h.0.desk h.0.flow me.0.reader h.2 f.2 e;
+      over = λ e. over_now h.0.course h.0.desk h.0.present me.0.reader h.2 f.2 e;
     } in
     let least = h.1.standing.next_least in
     let most = h.1.standing.next_most in
-    let label_least = h.1.standing.label_least in
-    let label_most = h.1.standing.label_most in
+    let next_tag_least = h.1.standing.next_tag_least in
+    let next_tag_most = h.1.standing.next_tag_most in
     let words_count = h.1.counts.written_words in
     let tag_count = h.1.counts.written_tags in
     let words_most : words_of (slice_index s.words 1) ≤ words_pulled h.0.course + h.0.course.len = omega arith in
@@ -186,9 +191,9 @@ loads_written slots seat me st reads s h count at bits =
 -- ---- words and tags are loaded
 
 -- the words that are due stand in the ring, and so do the tags
-words_due : (ws : List ℕ) (course : Course) (desk : Desk) (flow : ℕ) (reader : ReaderView) → AreWords ws course desk flow → IsReaderIn course flow reader
+words_due : (ws : List ℕ) (course : Course) (desk : Desk) (present : ℕ) (reader : ReaderView) → AreWords ws course desk present → IsReaderIn course present reader
     → Stands ws 5 course.len (words_pulled course) desk.next reader.due × AreFrom (words_pulled course) reader.due
-words_due ws course desk flow reader a f =
+words_due ws course desk present reader a f =
     let len = course.len in
     let b = a.standing in
     let unread : Stands ws 5 course.len (words_pulled course) desk.next (all_laid course.len (words_pulled course) course.unread) =
@@ -205,38 +210,38 @@ words_due ws course desk flow reader a f =
       from-right (words_pulled course) f.due.0 reader.due (subst (AreFrom (words_pulled course)) (sym f.due.1) above),
     )
 
-tags_due : (ws : List ℕ) (course : Course) (desk : Desk) (flow : ℕ) (reader : ReaderView) → AreWords ws course desk flow → IsReaderIn course flow reader
-    → Stands ws (5 + course.len) course.tags (length course.pulled) desk.next_label reader.due_labels × AreFrom (length course.pulled) reader.due_labels
-tags_due ws course desk flow reader a f =
+tags_due : (ws : List ℕ) (course : Course) (desk : Desk) (present : ℕ) (reader : ReaderView) → AreWords ws course desk present → IsReaderIn course present reader
+    → Stands ws (5 + course.len) course.tags (length course.pulled) desk.next_tag reader.due_tags × AreFrom (length course.pulled) reader.due_tags
+tags_due ws course desk present reader a f =
     let b = a.standing in
     let zero_plus : 0 + length course.pulled ≡ length course.pulled = omega arith in
-    let unread : Stands ws (5 + course.len) course.tags (length course.pulled) desk.next_label (labels_from (length course.pulled) course.unread) =
-    subst (λ (t : ℕ). Stands ws (5 + course.len) course.tags (length course.pulled) desk.next_label (labels_from t course.unread)) zero_plus
-    (stands-right ws (5 + course.len) course.tags (length course.pulled) desk.next_label (labels_from 0 course.pulled) (labels_from (0 + length course.pulled) course.unread)
-    (subst (Stands ws (5 + course.len) course.tags (length course.pulled) desk.next_label) (labels-append 0 course.pulled course.unread)
-    (stands-left ws (5 + course.len) course.tags (length course.pulled) desk.next_label (labels_from 0 (kept_of course)) desk.label b.tags_stand))) in
-    let split : labels_from (length course.pulled) course.unread ≡ labels_from (length course.pulled) reader.ahead ++ labels_from (length course.pulled + length reader.ahead) f.ahead.0 =
-    ap (labels_from (length course.pulled)) (sym f.ahead.1) ∙ labels-append (length course.pulled) reader.ahead f.ahead.0 in
-    let ahead : Stands ws (5 + course.len) course.tags (length course.pulled) desk.next_label (labels_from (length course.pulled) reader.ahead) =
-    stands-left ws (5 + course.len) course.tags (length course.pulled) desk.next_label (labels_from (length course.pulled) reader.ahead) (labels_from (length course.pulled + length reader.ahead) f.ahead.0)
-    (subst (Stands ws (5 + course.len) course.tags (length course.pulled) desk.next_label) split unread) in (
-      stands-right ws (5 + course.len) course.tags (length course.pulled) desk.next_label f.due_labels.0 reader.due_labels
-          (subst (Stands ws (5 + course.len) course.tags (length course.pulled) desk.next_label) (sym f.due_labels.1) ahead),
-      from-right (length course.pulled) f.due_labels.0 reader.due_labels (subst (AreFrom (length course.pulled)) (sym f.due_labels.1) (from-labels (length course.pulled) reader.ahead)),
+    let unread : Stands ws (5 + course.len) course.tags (length course.pulled) desk.next_tag (tags_from (length course.pulled) course.unread) =
+    subst (λ (t : ℕ). Stands ws (5 + course.len) course.tags (length course.pulled) desk.next_tag (tags_from t course.unread)) zero_plus
+    (stands-right ws (5 + course.len) course.tags (length course.pulled) desk.next_tag (tags_from 0 course.pulled) (tags_from (0 + length course.pulled) course.unread)
+    (subst (Stands ws (5 + course.len) course.tags (length course.pulled) desk.next_tag) (tags_from-append 0 course.pulled course.unread)
+    (stands-left ws (5 + course.len) course.tags (length course.pulled) desk.next_tag (tags_from 0 (kept_of course)) desk.tag_draft b.tags_stand))) in
+    let split : tags_from (length course.pulled) course.unread ≡ tags_from (length course.pulled) reader.ahead ++ tags_from (length course.pulled + length reader.ahead) f.ahead.0 =
+    ap (tags_from (length course.pulled)) (sym f.ahead.1) ∙ tags_from-append (length course.pulled) reader.ahead f.ahead.0 in
+    let ahead : Stands ws (5 + course.len) course.tags (length course.pulled) desk.next_tag (tags_from (length course.pulled) reader.ahead) =
+    stands-left ws (5 + course.len) course.tags (length course.pulled) desk.next_tag (tags_from (length course.pulled) reader.ahead) (tags_from (length course.pulled + length reader.ahead) f.ahead.0)
+    (subst (Stands ws (5 + course.len) course.tags (length course.pulled) desk.next_tag) split unread) in (
+      stands-right ws (5 + course.len) course.tags (length course.pulled) desk.next_tag f.due_tags.0 reader.due_tags
+          (subst (Stands ws (5 + course.len) course.tags (length course.pulled) desk.next_tag) (sym f.due_tags.1) ahead),
+      from-right (length course.pulled) f.due_tags.0 reader.due_tags (subst (AreFrom (length course.pulled)) (sym f.due_tags.1) (from-tags (length course.pulled) reader.ahead)),
     )
 
 pub loads_word : {S : Type 0} (slots seat place : ℕ) (me : Me S View) (st : Step S) → me.0.reads ≡ true → IsDueAt place me.0.len me.0.reader.due
     → Allows IsRing slots seat me (5 + place) (λ x. x) (loaded_word st me)
 loads_word slots seat place me st reads due s h count at bits =
     let f = (h.3 seat me.0 at).reader reads in
-    let d = words_due s.words h.0.course h.0.desk h.0.flow me.0.reader h.1 f.2 in
+    let d = words_due s.words h.0.course h.0.desk h.0.present me.0.reader h.1 f.2 in
     let word = due-word s.words 5 h.0.course.len (words_pulled h.0.course) h.0.desk.next place me.0.reader.due d.0 d.1 (subst (λ (n : ℕ). IsDueAt place n me.0.reader.due) f.1.1 due) in
-    let new : IsReaderIn h.0.course h.0.flow (record me.0.reader { due = drop 1 me.0.reader.due }) = record {
+    let new : IsReaderIn h.0.course h.0.present (record me.0.reader { due = drop 1 me.0.reader.due }) = record {
       taken = f.2.taken;
       pulled = f.2.pulled;
       ahead = f.2.ahead;
       due = shorter f.2.due.0 me.0.reader.due (all_laid h.0.course.len (words_pulled h.0.course) me.0.reader.ahead) f.2.due.1;
-      due_labels = f.2.due_labels;
+      due_tags = f.2.due_tags;
       earlier = f.2.earlier;
       found_earlier = f.2.found_earlier;
       seen = f.2.seen;
@@ -253,19 +258,19 @@ loads_word slots seat place me st reads due s h count at bits =
       (refl, word),
     )
 
-pub loads_label : {S : Type 0} (slots seat len place : ℕ) (me : Me S View) (st : Step S) → me.0.reads ≡ true → len ≡ me.0.len → IsDueAt place me.0.tags me.0.reader.due_labels
-    → Allows IsRing slots seat me ((5 + len) + place) (λ x. x) (loaded_label st me)
-loads_label slots seat len place me st reads len_is due s h count at bits =
+pub loads_tag : {S : Type 0} (slots seat len place : ℕ) (me : Me S View) (st : Step S) → me.0.reads ≡ true → len ≡ me.0.len → IsDueAt place me.0.tags me.0.reader.due_tags
+    → Allows IsRing slots seat me ((5 + len) + place) (λ x. x) (loaded_tag st me)
+loads_tag slots seat len place me st reads len_is due s h count at bits =
     let f = (h.3 seat me.0 at).reader reads in
-    let d = tags_due s.words h.0.course h.0.desk h.0.flow me.0.reader h.1 f.2 in
-    let tag = due-word s.words (5 + h.0.course.len) h.0.course.tags (length h.0.course.pulled) h.0.desk.next_label place me.0.reader.due_labels d.0 d.1 (subst (λ (n : ℕ). IsDueAt place n me.0.reader.due_labels) f.1.2 due) in
-    let tag' = subst (λ (n : ℕ). slice_index s.words ((5 + n) + place) ≡ first_word me.0.reader.due_labels) (sym (len_is ∙ f.1.1)) tag in
-    let new : IsReaderIn h.0.course h.0.flow (record me.0.reader { due_labels = drop 1 me.0.reader.due_labels }) = record {
+    let d = tags_due s.words h.0.course h.0.desk h.0.present me.0.reader h.1 f.2 in
+    let tag = due-word s.words (5 + h.0.course.len) h.0.course.tags (length h.0.course.pulled) h.0.desk.next_tag place me.0.reader.due_tags d.0 d.1 (subst (λ (n : ℕ). IsDueAt place n me.0.reader.due_tags) f.1.2 due) in
+    let tag' = subst (λ (n : ℕ). slice_index s.words ((5 + n) + place) ≡ first_word me.0.reader.due_tags) (sym (len_is ∙ f.1.1)) tag in
+    let new : IsReaderIn h.0.course h.0.present (record me.0.reader { due_tags = drop 1 me.0.reader.due_tags }) = record {
       taken = f.2.taken;
       pulled = f.2.pulled;
       ahead = f.2.ahead;
       due = f.2.due;
-      due_labels = shorter f.2.due_labels.0 me.0.reader.due_labels (labels_from (length h.0.course.pulled) me.0.reader.ahead) f.2.due_labels.1;
+      due_tags = shorter f.2.due_tags.0 me.0.reader.due_tags (tags_from (length h.0.course.pulled) me.0.reader.ahead) f.2.due_tags.1;
       earlier = f.2.earlier;
       found_earlier = f.2.found_earlier;
       seen = f.2.seen;
@@ -275,10 +280,10 @@ loads_label slots seat len place me st reads len_is due s h count at bits =
       last_seen = f.2.last_seen;
       over = f.2.over;
     } in (
-      without_labels me.0 1,
+      without_tags me.0 1,
       keeps,
       tt,
-      (h.0, same_words ((5 + len) + place) s.words h.0 h.1, h.2, reads_on h.0 s.views seat me.0 (record me.0.reader { due_labels = drop 1 me.0.reader.due_labels }) h.3 at reads new),
+      (h.0, same_words ((5 + len) + place) s.words h.0 h.1, h.2, reads_on h.0 s.views seat me.0 (record me.0.reader { due_tags = drop 1 me.0.reader.due_tags }) h.3 at reads new),
       (refl, tag'),
     )
 
@@ -287,22 +292,22 @@ loads_label slots seat len place me st reads len_is due s h count at bits =
 rest_none : (ahead rest : List Offer) → ahead ++ rest ≡ [] → rest ≡ []
 rest_none ahead rest e = (let a : length ahead + length rest ≡ 0 = sym (length-append ahead rest) ∙ ap length e in nil_from_length rest (omega arith))
 
-pub stores_read : {S : Type 0} (slots seat : ℕ) (me : Me S View) (r : ℕ) (st : Step S) → me.0.reads ≡ true → me.0.reader.due ≡ [] → me.0.reader.due_labels ≡ []
+pub stores_read : {S : Type 0} (slots seat : ℕ) (me : Me S View) (r : ℕ) (st : Step S) → me.0.reads ≡ true → me.0.reader.due ≡ [] → me.0.reader.due_tags ≡ []
     → words_of r ≡ behind_all me.0.len 0 (me.0.reader.pulled ++ me.0.reader.ahead) → tags_of r ≡ length (me.0.reader.pulled ++ me.0.reader.ahead)
     → Allows IsRing slots seat me 0 (λ _. r) (λ _. stored_read st me r)
-stores_read slots seat me r st reads due due_labels words labels s h count at bits =
+stores_read slots seat me r st reads due due_tags words tags_is s h count at bits =
     let f = (h.3 seat me.0 at).reader reads in
     let ahead = me.0.reader.ahead in
     let rest = f.2.ahead.0 in
-    let there = store-read s.words h.0.course h.0.desk h.0.flow h.1 r me.0.reader.ahead f.2.ahead.0 (h.0.course.taken ++ me.0.reader.ahead) f.2.ahead.1
-    (words ∙ (λ i. behind_all (f.1.1 i) 0 (f.2.pulled i ++ me.0.reader.ahead))) (labels ∙ (λ i. length (f.2.pulled i ++ me.0.reader.ahead))) in
+    let there = store-read s.words h.0.course h.0.desk h.0.present h.1 r me.0.reader.ahead f.2.ahead.0 (h.0.course.taken ++ me.0.reader.ahead) f.2.ahead.1
+    (words ∙ (λ i. behind_all (f.1.1 i) 0 (f.2.pulled i ++ me.0.reader.ahead))) (tags_is ∙ (λ i. length (f.2.pulled i ++ me.0.reader.ahead))) in
     let gone : me.0.reader.ahead ≡ h.0.course.unread → [] ≡ f.2.ahead.0 = λ e. sym (none_left me.0.reader.ahead f.2.ahead.0 h.0.course.unread f.2.ahead.1 e) in
-    let new : IsReaderIn (batch_taken h.0.course me.0.reader.ahead f.2.ahead.0) h.0.flow (with_batch me.0).reader = record {
+    let new : IsReaderIn (batch_taken h.0.course me.0.reader.ahead f.2.ahead.0) h.0.present (with_batch me.0).reader = record {
       taken = ap (λ (os : List Offer). os ++ me.0.reader.ahead) f.2.taken;
       pulled = ap (λ (os : List Offer). os ++ me.0.reader.ahead) f.2.pulled;
       ahead = (f.2.ahead.0, refl);
       due = ([], due);
-      due_labels = ([], due_labels);
+      due_tags = ([], due_tags);
       earlier = f.2.earlier;
       found_earlier = f.2.found_earlier;
       seen = λ a b. gone (f.2.seen a b);
@@ -312,15 +317,15 @@ stores_read slots seat me r st reads due due_labels words labels s h count at bi
       last_seen = λ a b. gone (f.2.last_seen a b);
       over = λ e. (let o = f.2.over e in (o.0, o.1, rest_none me.0.reader.ahead f.2.ahead.0 (f.2.ahead.1 ∙ o.2)));
     } in
-    let numbers : AreNumbers (batch_taken h.0.course me.0.reader.ahead f.2.ahead.0) h.0.desk h.0.flow = record {
+    let numbers : AreNumbers (batch_taken h.0.course me.0.reader.ahead f.2.ahead.0) h.0.desk h.0.present = record {
       sound = batch-sound h.0.course h.2.sound me.0.reader.ahead f.2.ahead.0 f.2.ahead.1;
       pending = h.2.pending;
       change = h.2.change;
       quiet = h.2.quiet;
       ended = h.2.ended;
     } in
-    let views = reader_goes h.0 (batch_taken h.0.course me.0.reader.ahead f.2.ahead.0) h.0.flow s.views seat me.0 (with_batch me.0).reader (refl, refl, refl)
-    (λ w g. writer-batch h.0.course h.0.desk h.0.flow me.0.reader.ahead f.2.ahead.0 (h.0.course.taken ++ me.0.reader.ahead) w f.2.ahead.1 g) h.3 at reads new in
+    let views = reader_goes h.0 (batch_taken h.0.course me.0.reader.ahead f.2.ahead.0) h.0.present s.views seat me.0 (with_batch me.0).reader (refl, refl, refl)
+    (λ w g. writer-batch h.0.course h.0.desk h.0.present me.0.reader.ahead f.2.ahead.0 (h.0.course.taken ++ me.0.reader.ahead) w f.2.ahead.1 g) h.3 at reads new in
     (with_batch me.0, keeps, tt, (record h.0 { course = batch_taken h.0.course me.0.reader.ahead f.2.ahead.0 }, there, numbers, views), refl)
 
 -- ---- the loss is taken
@@ -328,12 +333,12 @@ stores_read slots seat me r st reads due due_labels words labels s h count at bi
 pub loads_since : {S : Type 0} (slots seat : ℕ) (me : Me S View) (st : Step S) → me.0.reads ≡ true → Allows IsRing slots seat me 3 (λ x. x) (loaded_since st me)
 loads_since slots seat me st reads s h count at bits =
     let f = (h.3 seat me.0 at).reader reads in
-    let new : IsReaderIn h.0.course h.0.flow (with_time me.0 (slice_index s.words 3)).reader = record {
+    let new : IsReaderIn h.0.course h.0.present (with_time me.0 (slice_index s.words 3)).reader = record {
       taken = f.2.taken;
       pulled = f.2.pulled;
       ahead = f.2.ahead;
       due = f.2.due;
-      due_labels = f.2.due_labels;
+      due_tags = f.2.due_tags;
       earlier = f.2.earlier;
       found_earlier = f.2.found_earlier;
       seen = f.2.seen;
@@ -351,16 +356,16 @@ word_differs overflow word next e = (let c : change_of word ≡ change_of overfl
 loss_won : {S : Type 0} (s : State S View) (slots seat : ℕ) (me : Me S View) (old word : ℕ) → IsRing s → get_elem? s.views seat ≡ some me.0 → me.0.reads ≡ true → me.0.reader.overflow ≡ old → 0 < count_of old
     → me.0.reader.has_seen ≡ true → me.0.reader.is_timed ≡ true → me.0.reader.ahead ≡ [] → count_of word ≡ 0 → change_of word ≡ change_of old + 1
     → slice_index s.words 2 ≡ old → Goes s 2 seat me word (exchanged_loss (step slots 2 old word none) me)
-loss_won s slots seat me old word h at reads flow_is pos has_seen is_timed none_ahead nil next e =
+loss_won s slots seat me old word h at reads present_is pos has_seen is_timed none_ahead nil next e =
     let f = (h.3 seat me.0 at).reader reads in
-    let flow : h.0.flow ≡ old = sym h.1.counts.flow_is ∙ e in
-    let pos' : 0 < count_of h.0.flow = subst (λ (k : ℕ). 0 < count_of k) (sym flow) pos in
+    let present : h.0.present ≡ old = sym h.1.counts.present_is ∙ e in
+    let pos' : 0 < count_of h.0.present = subst (λ (k : ℕ). 0 < count_of k) (sym present) pos in
     let pending : 0 < h.0.course.pending = subst (λ (k : ℕ). 0 < k) h.2.pending pos' in
-    let stands : IsStanding h.0.flow me.0.reader.overflow = record { some = subst (λ (k : ℕ). 0 < count_of k) (sym flow_is) pos; same = flow ∙ sym flow_is } in
+    let stands : IsStanding h.0.present me.0.reader.overflow = record { some = subst (λ (k : ℕ). 0 < count_of k) (sym present_is) pos; same = present ∙ sym present_is } in
     let unread : h.0.course.unread ≡ [] = sym (f.2.seen stands has_seen) ∙ none_ahead in
     let time : me.0.reader.time ≡ h.0.course.since = f.2.timed stands is_timed in
-    let change : change_of word ≡ change_of h.0.flow + 1 = next ∙ ap (λ (k : ℕ). change_of k + 1) (sym flow) in
-    let change_seen : change_of word ≡ change_of me.0.reader.overflow + 1 = next ∙ ap (λ (k : ℕ). change_of k + 1) (sym flow_is) in
+    let change : change_of word ≡ change_of h.0.present + 1 = next ∙ ap (λ (k : ℕ). change_of k + 1) (sym present) in
+    let change_seen : change_of word ≡ change_of me.0.reader.overflow + 1 = next ∙ ap (λ (k : ℕ). change_of k + 1) (sym present_is) in
     let change_found : change_of word ≡ change_of (slice_index s.words 2) + 1 = next ∙ ap (λ (k : ℕ). change_of k + 1) (sym e) in
     let loss : loss_of me.0 ≡ loss_offer h.0.course.hdrsize h.0.course.pending h.0.course.since =
     (λ i. loss_offer (f.1.0 i) ((ap count_of (sym stands.same) ∙ h.2.pending) i) (time i)) in
@@ -377,7 +382,7 @@ loss_won s slots seat me old word h at reads flow_is pos has_seen is_timed none_
       pulled = f.2.pulled;
       ahead = f.2.ahead;
       due = f.2.due;
-      due_labels = f.2.due_labels;
+      due_tags = f.2.due_tags;
       earlier = record { change = omega arith; count = λ x. absurd (omega arith) };
       found_earlier = record { change = omega (arith, change_found); count = λ x. absurd (omega (arith, change_found)) };
       seen = λ x _. absurd (differs x.same);
@@ -388,13 +393,13 @@ loss_won s slots seat me old word h at reads flow_is pos has_seen is_timed none_
       over = λ x. (let o = f.2.over x in (o.0, refl, o.2));
     } in
     let views = reader_goes h.0 (lifted h.0.course) word s.views seat me.0 (with_loss me.0 (slice_index s.words 2)).reader (refl, refl, refl)
-    (λ w g. writer-lifted h.0.course h.0.desk h.0.flow word (h.0.course.taken ++ loss_offer h.0.course.hdrsize h.0.course.pending h.0.course.since ∷ []) 0 (h.0.course.change + 1) w pos' nil change g) h.3 at reads new in (
+    (λ w g. writer-lifted h.0.course h.0.desk h.0.present word (h.0.course.taken ++ loss_offer h.0.course.hdrsize h.0.course.pending h.0.course.since ∷ []) 0 (h.0.course.change + 1) w pos' nil change g) h.3 at reads new in (
       with_loss me.0 (slice_index s.words 2),
       keeps,
       tt,
       (
-        record h.0 { course = lifted h.0.course; flow = word },
-        store-flow s.words h.0.course h.0.desk h.0.flow h.1 word h.0.course.offers (h.0.course.taken ++ loss_offer h.0.course.hdrsize h.0.course.pending h.0.course.since ∷ []) 0 (h.0.course.change + 1) h.0.course.owed,
+        record h.0 { course = lifted h.0.course; present = word },
+        store-present s.words h.0.course h.0.desk h.0.present h.1 word h.0.course.offers (h.0.course.taken ++ loss_offer h.0.course.hdrsize h.0.course.pending h.0.course.since ∷ []) 0 (h.0.course.change + 1) h.0.course.owed,
         numbers,
         views,
       ),
@@ -405,14 +410,14 @@ loss_raced : {S : Type 0} (s : State S View) (seat : ℕ) (me : Me S View) → I
     → IsRing (stepped s 2 (slice_index s.words 2) seat me.1 (without_loss me.0 (slice_index s.words 2)) keeps)
 loss_raced s seat me h at reads =
     let f = (h.3 seat me.0 at).reader reads in
-    let new : IsReaderIn h.0.course h.0.flow (without_loss me.0 (slice_index s.words 2)).reader = record {
+    let new : IsReaderIn h.0.course h.0.present (without_loss me.0 (slice_index s.words 2)).reader = record {
       taken = f.2.taken;
       pulled = f.2.pulled;
       ahead = f.2.ahead;
       due = f.2.due;
-      due_labels = f.2.due_labels;
+      due_tags = f.2.due_tags;
       earlier = f.2.earlier;
-      found_earlier = earlier_self (slice_index s.words 2) h.0.flow h.1.counts.flow_is;
+      found_earlier = earlier_self (slice_index s.words 2) h.0.present h.1.counts.present_is;
       seen = f.2.seen;
       timed = f.2.timed;
       end_found = f.2.end_found;
@@ -425,10 +430,10 @@ loss_raced s seat me h at reads =
 pub exchanges_loss : {S : Type 0} (slots seat : ℕ) (me : Me S View) (old word : ℕ) → me.0.reads ≡ true → me.0.reader.overflow ≡ old → 0 < count_of old
     → me.0.reader.has_seen ≡ true → me.0.reader.is_timed ≡ true → me.0.reader.ahead ≡ [] → count_of word ≡ 0 → change_of word ≡ change_of old + 1
     → Allows IsRing slots seat me 2 (λ n. either (n == old) word n) (exchanged_loss (step slots 2 old word none) me)
-exchanges_loss {S} slots seat me old word reads flow_is pos has_seen is_timed none_ahead nil next s h count at bits =
+exchanges_loss {S} slots seat me old word reads present_is pos has_seen is_timed none_ahead nil next s h count at bits =
     ⊎_elim
     (λ (e : slice_index s.words 2 ≡ old). subst (λ (m : ℕ). Goes s 2 seat me m (exchanged_loss (step slots 2 old word none) me)) (sym (won_is (slice_index s.words 2) old word e))
-    (loss_won s slots seat me old word h at reads flow_is pos has_seen is_timed none_ahead nil next e))
+    (loss_won s slots seat me old word h at reads present_is pos has_seen is_timed none_ahead nil next e))
     (λ (d : slice_index s.words 2 ≡ old → ⊥). subst (λ (m : ℕ). Goes s 2 seat me m (exchanged_loss (step slots 2 old word none) me)) (sym (raced_is (slice_index s.words 2) old word d))
     (without_loss me.0 (slice_index s.words 2), keeps, tt, loss_raced s seat me h at reads, (λ e. absurd (d e), λ _. refl)))
     (same_or (slice_index s.words 2) old)
@@ -439,10 +444,10 @@ zeros_are : (n i : ℕ) → i < n → slice_index (replicate n 0) i ≡ 0
 zeros_are n i h = get_or-replicate n i 0 0 h
 
 abbrev first_desk : Desk
-first_desk = record { draft = []; next = 0; label = []; next_label = 0 }
+first_desk = record { draft = []; next = 0; tag_draft = []; next_tag = 0 }
 
 abbrev first_past : (hdrsize len tags : ℕ) → Past
-first_past hdrsize len tags = record { course = first_course hdrsize len tags; desk = first_desk; flow = 0; writer = 0; reader = 0 }
+first_past hdrsize len tags = record { course = first_course hdrsize len tags; desk = first_desk; present = 0; writer = 0; reader = 0 }
 
 pub opens : (S : Type 0) (hdrsize len tags : ℕ) → 0 < len → 0 < tags → IsRing (opening {S = S} (replicate (5 + (len + tags)) 0) [] (first_view hdrsize len tags))
 opens S hdrsize len tags some_words some_tags =
@@ -458,11 +463,11 @@ opens S hdrsize len tags some_words some_tags =
           read_tags = ap tags_of z0;
           written_words = ap words_of z1;
           written_tags = ap tags_of z1;
-          flow_is = zeros_are (5 + (len + tags)) 2 (omega arith);
+          present_is = zeros_are (5 + (len + tags)) 2 (omega arith);
           since_is = zeros_are (5 + (len + tags)) 3 (omega arith);
           end_is = zeros_are (5 + (len + tags)) 4 (omega arith);
         };
-        standing = record { words_stand = tt; next_least = omega arith; next_most = omega arith; tags_stand = tt; label_least = omega arith; label_most = omega arith };
+        standing = record { words_stand = tt; next_least = omega arith; next_most = omega arith; tags_stand = tt; next_tag_least = omega arith; next_tag_most = omega arith };
       },
       record {
         sound = first-sound hdrsize len tags;
@@ -481,15 +486,15 @@ opens S hdrsize len tags some_words some_tags =
         (refl, refl, refl),
         record {
           offers = refl;
-          kept = refl;
+          records = refl;
           draft = refl;
           next = refl;
-          label = refl;
-          next_label = refl;
+          tag_draft = refl;
+          next_tag = refl;
           since = refl;
           owed = refl;
           closed = refl;
-          flow_is = inl refl;
+          present_is = inl refl;
           earlier = (earlier_self 0 0 refl, earlier_self 0 0 refl);
           read_words = omega arith;
           read_tags = omega arith;
@@ -503,7 +508,7 @@ opens S hdrsize len tags some_words some_tags =
           pulled = refl;
           ahead = ([], refl);
           due = ([], refl);
-          due_labels = ([], refl);
+          due_tags = ([], refl);
           earlier = earlier_self 0 0 refl;
           found_earlier = earlier_self 0 0 refl;
           seen = λ _ e. absurd (off e);

@@ -50,13 +50,13 @@ sized : (c d : Course) (v : View) → SameSizes c d → IsSizedAs c v → IsSize
 sized c d v s z = (z.0 ∙ s.0, z.1 ∙ s.1, z.2 ∙ s.2)
 
 -- all views, when the writer goes on
-pub writer_goes : (past : Past) (course : Course) (desk : Desk) (flow : ℕ) (views : List View) (seat : ℕ) (v : View) (writer : WriterView)
-    → SameSizes past.course course → ((r : ReaderView) → IsReaderIn past.course past.flow r → IsReaderIn course flow r)
-    → AllFit past views → get_elem? views seat ≡ some v → v.writes ≡ true → IsWriterIn course desk flow writer
-    → AllFit (record past { course = course; desk = desk; flow = flow }) (slice_set views seat (record v { writer = writer }))
-writer_goes past course desk flow views seat v writer same stays fit at writes new =
+pub writer_goes : (past : Past) (course : Course) (desk : Desk) (present : ℕ) (views : List View) (seat : ℕ) (v : View) (writer : WriterView)
+    → SameSizes past.course course → ((r : ReaderView) → IsReaderIn past.course past.present r → IsReaderIn course present r)
+    → AllFit past views → get_elem? views seat ≡ some v → v.writes ≡ true → IsWriterIn course desk present writer
+    → AllFit (record past { course = course; desk = desk; present = present }) (slice_set views seat (record v { writer = writer }))
+writer_goes past course desk present views seat v writer same stays fit at writes new =
     let f = (fit seat v at).writer writes in
-    all_set (Fits (record past { course = course; desk = desk; flow = flow })) views seat (record v { writer = writer })
+    all_set (Fits (record past { course = course; desk = desk; present = present })) views seat (record v { writer = writer })
     (λ j u apart there. record {
       writer = λ w. absurd (no_writer past seat j u f.0 apart (fit j u there) w);
       reader = λ r. (let g = (fit j u there).reader r in (g.0, sized past.course course u same g.1, stays u.reader g.2));
@@ -67,13 +67,13 @@ writer_goes past course desk flow views seat v writer same stays fit at writes n
     })
 
 -- all views, when the reader goes on
-pub reader_goes : (past : Past) (course : Course) (flow : ℕ) (views : List View) (seat : ℕ) (v : View) (reader : ReaderView)
-    → SameSizes past.course course → ((w : WriterView) → IsWriterIn past.course past.desk past.flow w → IsWriterIn course past.desk flow w)
-    → AllFit past views → get_elem? views seat ≡ some v → v.reads ≡ true → IsReaderIn course flow reader
-    → AllFit (record past { course = course; flow = flow }) (slice_set views seat (record v { reader = reader }))
-reader_goes past course flow views seat v reader same stays fit at reads new =
+pub reader_goes : (past : Past) (course : Course) (present : ℕ) (views : List View) (seat : ℕ) (v : View) (reader : ReaderView)
+    → SameSizes past.course course → ((w : WriterView) → IsWriterIn past.course past.desk past.present w → IsWriterIn course past.desk present w)
+    → AllFit past views → get_elem? views seat ≡ some v → v.reads ≡ true → IsReaderIn course present reader
+    → AllFit (record past { course = course; present = present }) (slice_set views seat (record v { reader = reader }))
+reader_goes past course present views seat v reader same stays fit at reads new =
     let f = (fit seat v at).reader reads in
-    all_set (Fits (record past { course = course; flow = flow })) views seat (record v { reader = reader })
+    all_set (Fits (record past { course = course; present = present })) views seat (record v { reader = reader })
     (λ j u apart there. record {
       writer = λ w. (let g = (fit j u there).writer w in (g.0, sized past.course course u same g.1, stays u.writer g.2));
       reader = λ r. absurd (no_reader past seat j u f.0 apart (fit j u there) r);
@@ -85,22 +85,22 @@ reader_goes past course flow views seat v reader same stays fit at reads new =
 
 -- ---- the reader's knowledge, when the writer goes on
 
-none_stands : (flow overflow : ℕ) → count_of flow ≡ 0 → IsStanding flow overflow → ⊥
-none_stands flow overflow z s = let p = s.some in let e : count_of flow ≡ count_of overflow = ap count_of s.same in omega arith
+none_stands : (present overflow : ℕ) → count_of present ≡ 0 → IsStanding present overflow → ⊥
+none_stands present overflow z s = let p = s.some in let e : count_of present ≡ count_of overflow = ap count_of s.same in omega arith
 
 -- a record lies in the ring
-pub reader-more : (course : Course) (flow : ℕ) (o : Offer) (offers : List Offer) (owed : ℕ) (r : ReaderView) → count_of flow ≡ 0 → course.ended ≡ false → IsReaderIn course flow r
-    → IsReaderIn (record course { offers = offers; unread = course.unread ++ o ∷ []; owed = owed }) flow r
-reader-more course flow o offers owed r quiet is_open f = record {
+pub reader-more : (course : Course) (present : ℕ) (o : Offer) (offers : List Offer) (owed : ℕ) (r : ReaderView) → count_of present ≡ 0 → course.ended ≡ false → IsReaderIn course present r
+    → IsReaderIn (record course { offers = offers; unread = course.unread ++ o ∷ []; owed = owed }) present r
+reader-more course present o offers owed r quiet is_open f = record {
   taken = f.taken;
   pulled = f.pulled;
   ahead = (f.ahead.0 ++ o ∷ [], sym (append_assoc r.ahead f.ahead.0 (o ∷ [])) ∙ ap (λ (os : List Offer). os ++ o ∷ []) f.ahead.1);
   due = f.due;
-  due_labels = f.due_labels;
+  due_tags = f.due_tags;
   earlier = f.earlier;
   found_earlier = f.found_earlier;
-  seen = λ s _. absurd (none_stands flow r.overflow quiet s);
-  timed = λ s _. absurd (none_stands flow r.overflow quiet s);
+  seen = λ s _. absurd (none_stands present r.overflow quiet s);
+  timed = λ s _. absurd (none_stands present r.overflow quiet s);
   end_found = f.end_found;
   last = f.last;
   last_seen = λ e _. absurd (off (sym is_open ∙ (f.last e).0));
@@ -108,17 +108,17 @@ reader-more course flow o offers owed r quiet is_open f = record {
 }
 
 -- the overflow time is set
-pub reader-since : (course : Course) (flow now : ℕ) (r : ReaderView) → count_of flow ≡ 0 → IsReaderIn course flow r → IsReaderIn (record course { since = now }) flow r
-reader-since course flow now r quiet f = record {
+pub reader-since : (course : Course) (present now : ℕ) (r : ReaderView) → count_of present ≡ 0 → IsReaderIn course present r → IsReaderIn (record course { since = now }) present r
+reader-since course present now r quiet f = record {
   taken = f.taken;
   pulled = f.pulled;
   ahead = f.ahead;
   due = f.due;
-  due_labels = f.due_labels;
+  due_tags = f.due_tags;
   earlier = f.earlier;
   found_earlier = f.found_earlier;
   seen = f.seen;
-  timed = λ s _. absurd (none_stands flow r.overflow quiet s);
+  timed = λ s _. absurd (none_stands present r.overflow quiet s);
   end_found = f.end_found;
   last = f.last;
   last_seen = f.last_seen;
@@ -126,13 +126,13 @@ reader-since course flow now r quiet f = record {
 }
 
 -- the end mark is stored
-pub reader-end : (course : Course) (flow : ℕ) (r : ReaderView) → IsReaderIn course flow r → IsReaderIn (record course { ended = true }) flow r
-reader-end course flow r f = record {
+pub reader-end : (course : Course) (present : ℕ) (r : ReaderView) → IsReaderIn course present r → IsReaderIn (record course { ended = true }) present r
+reader-end course present r f = record {
   taken = f.taken;
   pulled = f.pulled;
   ahead = f.ahead;
   due = f.due;
-  due_labels = f.due_labels;
+  due_tags = f.due_tags;
   earlier = f.earlier;
   found_earlier = f.found_earlier;
   seen = f.seen;
@@ -151,37 +151,37 @@ pub record IsLater (before now : ℕ) : Type 0 where
   pub change : change_of before ≤ change_of now
   pub count : change_of before ≡ change_of now → count_of before < count_of now
 
-pub later_earlier : (seen flow now : ℕ) → IsEarlier seen flow → IsLater flow now → IsEarlier seen now
-later_earlier seen flow now e l = let a = e.change in let b = l.change in record {
+pub later_earlier : (seen present now : ℕ) → IsEarlier seen present → IsLater present now → IsEarlier seen now
+later_earlier seen present now e l = let a = e.change in let b = l.change in record {
   change = omega arith;
-  count = λ s. (let x : change_of seen ≡ change_of flow = omega arith in let y : change_of flow ≡ change_of now = omega arith in let p = e.count x in let q = l.count y in omega arith);
+  count = λ s. (let x : change_of seen ≡ change_of present = omega arith in let y : change_of present ≡ change_of now = omega arith in let p = e.count x in let q = l.count y in omega arith);
 }
 
-pub later_differs : (seen flow now : ℕ) → IsEarlier seen flow → IsLater flow now → now ≡ seen → ⊥
-later_differs seen flow now e l s =
+pub later_differs : (seen present now : ℕ) → IsEarlier seen present → IsLater present now → now ≡ seen → ⊥
+later_differs seen present now e l s =
     let a = e.change in
     let b = l.change in
     let c : change_of now ≡ change_of seen = ap change_of s in
     let d : count_of now ≡ count_of seen = ap count_of s in
-    let x : change_of seen ≡ change_of flow = omega arith in
-    let y : change_of flow ≡ change_of now = omega arith in
+    let x : change_of seen ≡ change_of present = omega arith in
+    let y : change_of present ≡ change_of now = omega arith in
     let p = e.count x in
     let q = l.count y in
     omega arith
 
 -- overflow becomes a later word, by the writer
-pub reader-flow : (course : Course) (flow now : ℕ) (offers : List Offer) (pending change owed : ℕ) (r : ReaderView) → course.ended ≡ false → IsLater flow now → IsReaderIn course flow r
+pub reader-present : (course : Course) (present now : ℕ) (offers : List Offer) (pending change owed : ℕ) (r : ReaderView) → course.ended ≡ false → IsLater present now → IsReaderIn course present r
     → IsReaderIn (record course { offers = offers; pending = pending; change = change; owed = owed }) now r
-reader-flow course flow now offers pending change owed r is_open later f =
-    let differs : now ≡ r.overflow → ⊥ = later_differs r.overflow flow now f.earlier later in
+reader-present course present now offers pending change owed r is_open later f =
+    let differs : now ≡ r.overflow → ⊥ = later_differs r.overflow present now f.earlier later in
     record {
       taken = f.taken;
       pulled = f.pulled;
       ahead = f.ahead;
       due = f.due;
-      due_labels = f.due_labels;
-      earlier = later_earlier r.overflow flow now f.earlier later;
-      found_earlier = later_earlier r.found flow now f.found_earlier later;
+      due_tags = f.due_tags;
+      earlier = later_earlier r.overflow present now f.earlier later;
+      found_earlier = later_earlier r.found present now f.found_earlier later;
       seen = λ s _. absurd (differs s.same);
       timed = λ s _. absurd (differs s.same);
       end_found = f.end_found;
@@ -193,48 +193,48 @@ reader-flow course flow now offers pending change owed r is_open later f =
 -- ---- the writer's knowledge, when the reader goes on
 
 -- a batch is taken
-pub writer-batch : (course : Course) (desk : Desk) (flow : ℕ) (ahead rest taken : List Offer) (w : WriterView) → ahead ++ rest ≡ course.unread → IsWriterIn course desk flow w
-    → IsWriterIn (record course { taken = taken; pulled = course.pulled ++ ahead; unread = rest }) desk flow w
-writer-batch course desk flow ahead rest taken w e f =
+pub writer-batch : (course : Course) (desk : Desk) (present : ℕ) (ahead rest taken : List Offer) (w : WriterView) → ahead ++ rest ≡ course.unread → IsWriterIn course desk present w
+    → IsWriterIn (record course { taken = taken; pulled = course.pulled ++ ahead; unread = rest }) desk present w
+writer-batch course desk present ahead rest taken w e f =
     let m = behind-front course.len 0 course.pulled ahead in
     let l = length-append course.pulled ahead in
     let r = f.read_words in
     let t = f.read_tags in
     record {
       offers = f.offers;
-      kept = f.kept ∙ ap (λ (os : List Offer). course.pulled ++ os) (sym e) ∙ sym (append_assoc course.pulled ahead rest);
+      records = f.records ∙ ap (λ (os : List Offer). course.pulled ++ os) (sym e) ∙ sym (append_assoc course.pulled ahead rest);
       draft = f.draft;
       next = f.next;
-      label = f.label;
-      next_label = f.next_label;
+      tag_draft = f.tag_draft;
+      next_tag = f.next_tag;
       since = f.since;
       owed = f.owed;
       closed = f.closed;
-      flow_is = f.flow_is;
+      present_is = f.present_is;
       earlier = f.earlier;
       read_words = omega arith;
       read_tags = omega arith;
     }
 
 -- the loss is taken
-pub writer-lifted : (course : Course) (desk : Desk) (flow now : ℕ) (taken : List Offer) (pending change : ℕ) (w : WriterView)
-    → 0 < count_of flow → count_of now ≡ 0 → change_of now ≡ change_of flow + 1 → IsWriterIn course desk flow w
+pub writer-lifted : (course : Course) (desk : Desk) (present now : ℕ) (taken : List Offer) (pending change : ℕ) (w : WriterView)
+    → 0 < count_of present → count_of now ≡ 0 → change_of now ≡ change_of present + 1 → IsWriterIn course desk present w
     → IsWriterIn (record course { taken = taken; pending = pending; change = change }) desk now w
-writer-lifted course desk flow now taken pending change w pos none next f = record {
+writer-lifted course desk present now taken pending change w pos none next f = record {
   offers = f.offers;
-  kept = f.kept;
+  records = f.records;
   draft = f.draft;
   next = f.next;
-  label = f.label;
-  next_label = f.next_label;
+  tag_draft = f.tag_draft;
+  next_tag = f.next_tag;
   since = f.since;
   owed = f.owed;
   closed = f.closed;
-  flow_is = ⊎_elim
-      (λ (e : flow ≡ w.flow). inr (subst (λ (k : ℕ). 0 < count_of k) e pos, none, next ∙ ap (λ (k : ℕ). change_of k + 1) e))
-      (λ (l : IsLifted w.flow flow). (let z : count_of flow ≡ 0 = l.1 in absurd (omega arith)))
-      f.flow_is;
-  earlier = (let l : IsLater flow now = record { change = omega arith; count = λ x. absurd (omega arith) } in (later_earlier w.overflow flow now f.earlier.0 l, later_earlier w.found flow now f.earlier.1 l));
+  present_is = ⊎_elim
+      (λ (e : present ≡ w.present). inr (subst (λ (k : ℕ). 0 < count_of k) e pos, none, next ∙ ap (λ (k : ℕ). change_of k + 1) e))
+      (λ (l : IsLifted w.present present). (let z : count_of present ≡ 0 = l.1 in absurd (omega arith)))
+      f.present_is;
+  earlier = (let l : IsLater present now = record { change = omega arith; count = λ x. absurd (omega arith) } in (later_earlier w.overflow present now f.earlier.0 l, later_earlier w.found present now f.earlier.1 l));
   read_words = f.read_words;
   read_tags = f.read_tags;
 }

@@ -5,7 +5,7 @@ use Rattle.std.proofs.lemmas.List.{get_or-set_other, get_or-set_same, append_ass
 use Rattle.gp_ring.specs.Records.{Offer}
 use Rattle.gp_ring.specs.PlainRing.{piece_for}
 use Rattle.gp_ring.specs.Counts.{behind, behind_all}
-use Rattle.gp_ring.specs.kept.Traces.{from_count, mark_of, skip_before, laid_at, all_laid, labels_from, Stands, first_word, IsDueAt}
+use Rattle.gp_ring.specs.kept.Traces.{from_count, mark_of, skip_before, laid_at, all_laid, tags_from, Stands, first_word, IsDueAt}
 use Rattle.gp_ring.proofs.Rounds.{mod-differ}
 
 plus_zero : (c : ℕ) → c ≡ c + 0
@@ -31,11 +31,11 @@ laid-append len c (x ∷ xs) ys =
     ap (λ (t : List (ℕ × ℕ)). laid_at len c x ++ t) (laid-append len (behind len c x) xs ys)
     ∙ sym (append_assoc (laid_at len c x) (all_laid len (behind len c x) xs) (all_laid len (behind_all len (behind len c x) xs) ys))
 
-pub labels-append : (t : ℕ) (xs ys : List Offer) → labels_from t (xs ++ ys) ≡ labels_from t xs ++ labels_from (t + length xs) ys
-labels-append t xs ys =
+pub tags_from-append : (t : ℕ) (xs ys : List Offer) → tags_from t (xs ++ ys) ≡ tags_from t xs ++ tags_from (t + length xs) ys
+tags_from-append t xs ys =
     ap (from_count t) (map-append (λ (o : Offer). o.tag) xs ys)
     ∙ from-append t (map (λ (o : Offer). o.tag) xs) (map (λ (o : Offer). o.tag) ys)
-    ∙ ap (λ (k : ℕ). labels_from t xs ++ from_count (t + k) (map (λ (o : Offer). o.tag) ys)) (length-map xs (λ (o : Offer). o.tag))
+    ∙ ap (λ (k : ℕ). tags_from t xs ++ from_count (t + k) (map (λ (o : Offer). o.tag) ys)) (length-map xs (λ (o : Offer). o.tag))
 
 -- counts only rise
 pub behind-more : (len c : ℕ) (xs : List Offer) → c ≤ behind_all len c xs
@@ -75,8 +75,8 @@ from-laid f len c (x ∷ xs) h =
     (from-mark f (skip_before len c x) c h) (from-words f (c + skip_before len c x) (piece_for x).words (omega arith)))
     (from-laid f len (behind len c x) xs (omega arith))
 
-pub from-labels : (t : ℕ) (xs : List Offer) → AreFrom t (labels_from t xs)
-from-labels t xs = from-words t t (map (λ (o : Offer). o.tag) xs) (omega arith)
+pub from-tags : (t : ℕ) (xs : List Offer) → AreFrom t (tags_from t xs)
+from-tags t xs = from-words t t (map (λ (o : Offer). o.tag) xs) (omega arith)
 
 -- ---- what stands
 

@@ -1,5 +1,5 @@
 -- The two ends of a ring between two threads, as their callers see them: what the writer offered, and what the reader took.
-use Rattle.std.specs.Prelude.{◌≡◌, ℕ, ◌+◌, ◌-◌, ◌*◌, ◌%◌, ◌<◌, ◌^◌, ◌==◌, Bool, true, false, if◌then◌else◌, nat_lt}
+use Rattle.std.specs.Prelude.{◌≡◌, ℕ, ◌+◌, ◌-◌, ◌*◌, ◌%◌, ◌<◌, ◌≤◌, ◌^◌, ◌==◌, Bool, true, false, if◌then◌else◌, nat_lt}
 use Rattle.std.specs.Prelude.{List, [], ◌∷◌, ◌++◌, length, map}
 use Rattle.std.specs.List.{flat_map, AllByRecursion}
 use Rattle.atomic_table.specs.Seated.{TableId}
@@ -26,7 +26,7 @@ pub record RingOf : Type 0 where
 pub record WriterEnd : Type 0 where
   pub ring : RingOf
   pub offers : List Offer
-  pub kept : List Offer
+  pub records : List Offer
   pub since : ℕ
   pub loads : ℕ
   pub read : ℕ
@@ -35,10 +35,11 @@ pub record WriterEnd : Type 0 where
   pub exchanges : ℕ
   pub found : ℕ
 
--- the writer that was closed: all offers
+-- the writer that was closed: all offers, and whether the end mark is stored
 pub record ClosedEnd : Type 0 where
   pub ring : RingOf
   pub offers : List Offer
+  pub marked : Bool
 
 -- The reader: of which ring it is; the records that it took, in order; its place, as the counts behind them. How often it loaded the
 -- end mark, overflow, `w` and the overflow time and exchanged overflow, and what it found last. Whether a look was made since the
@@ -66,7 +67,7 @@ first_writer ring =
     record {
       ring = ring;
       offers = [];
-      kept = [];
+      records = [];
       since = 0;
       loads = 0;
       read = 0;
@@ -107,7 +108,7 @@ pub record MayWrite (writer : WriterEnd) (offer : Offer) : Type 0 where
 
 -- the data count of the writer's own `w`
 abbrev pub written_words : WriterEnd → ℕ
-written_words writer = behind_all writer.ring.len 0 writer.kept
+written_words writer = behind_all writer.ring.len 0 writer.records
 
 -- `r` and overflow were loaded
 abbrev pub with_loads : WriterEnd → (read overflow : ℕ) → WriterEnd
@@ -138,10 +139,10 @@ has_won writer = writer.found == writer.overflow
 abbrev pub room_by : Bool → WriterEnd → Offer → Bool
 room_by false writer offer =
     room_for_one writer.ring.len writer.ring.tags (written_words writer - words_of writer.read)
-    (length writer.kept - tags_of writer.read) (written_words writer % writer.ring.len) (words_for writer.ring.hdrsize offer)
+    (length writer.records - tags_of writer.read) (written_words writer % writer.ring.len) (words_for writer.ring.hdrsize offer)
 room_by true writer offer =
     room_for_two writer.ring.len writer.ring.tags (written_words writer - words_of writer.read)
-    (length writer.kept - tags_of writer.read) (written_words writer % writer.ring.len) (loss_size writer.ring.hdrsize)
+    (length writer.records - tags_of writer.read) (written_words writer % writer.ring.len) (loss_size writer.ring.hdrsize)
     (words_for writer.ring.hdrsize offer)
 
 abbrev pub has_room : WriterEnd → Offer → Bool
@@ -160,7 +161,7 @@ wrote writer offer = wrote_by (has_room writer offer) (is_pending writer) (has_w
 -- and what it leaves: the record is written, behind the loss if that was pending still; or else the offer is lost, as one more of the
 -- pending loss if that was pending still, and as the first one of another if not
 abbrev pub with_kept : WriterEnd → Offer → List Offer → WriterEnd
-with_kept writer offer more = record writer { offers = writer.offers ++ offer ∷ []; kept = writer.kept ++ more }
+with_kept writer offer more = record writer { offers = writer.offers ++ offer ∷ []; records = writer.records ++ more }
 
 abbrev pub with_lost : WriterEnd → Offer → ℕ → WriterEnd
 with_lost writer offer since = record writer { offers = writer.offers ++ offer ∷ []; since = since }
@@ -251,12 +252,13 @@ acted reader records time found =
     acted_by (is_ahead reader) (has_loss reader) (found == reader.overflow) reader records time found
 
 -- What an act does, if these records lie between the reader's place and the `w` that was looked at: whole ones, and as many as the
--- tag counts say.
+-- tag counts say. The end mark that was looked at is 0 or 1, so that what isn't the end was looked at before it was marked.
 pub record Acts (old new : ReaderEnd) : Type 0 where
   pub records : List Offer
   pub whole : AllByRecursion (IsWhole old.ring.hdrsize) records
   pub counted : old.read_tags + length records ≡ tags_of old.written
   pub place : records ≡ [] → words_of old.written ≡ old.read_words
+  pub mark : old.end ≤ 1
   pub after : new ≡ acted old records new.time new.found
   pub ring : new.ring ≡ old.ring
   pub loads : new.loads ≡ old.loads

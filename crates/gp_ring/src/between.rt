@@ -102,7 +102,7 @@ pub fn new(alloc: Global, hdrsize: u32, words: u32, tags: u32) -> Result<(Writer
     let shared = vec![in alloc; 0; 5 + (sizes.len as usize + sizes.tags as usize)]?;
     let zeros = vec![in alloc; 0; hdrsize as usize]?;
     let words = Vec::with_capacity(alloc, sizes.len as usize)?;
-    let labels = Vec::with_capacity(alloc, sizes.tags as usize)?;
+    let tag_words = Vec::with_capacity(alloc, sizes.tags as usize)?;
     let (table, mut seat) = RingTable::of_words(alloc, shared.as_slice(), &sizes)?;
     let table = Arc::new(alloc, table)?;
     let theirs = Arc::try_clone(&table)?;
@@ -127,7 +127,7 @@ pub fn new(alloc: Global, hdrsize: u32, words: u32, tags: u32) -> Result<(Writer
         },
         held: Held::Nothing,
         words,
-        labels,
+        tag_words,
     };
     Ok((writer, reader))
 }

@@ -1,5 +1,5 @@
 -- The world's end of the ring of samples, as its callers see it.
-use Rattle.std.specs.Prelude.{◌≡◌, List, [], ◌∷◌}
+use Rattle.std.specs.Prelude.{◌≡◌, true, List, [], ◌∷◌}
 use Rattle.gp_ring.specs.Records.{Offer}
 use Rattle.gp_ring.specs.TwoEnds.{RingOf, with_found, written, wrote}
 use Rattle.gp_ring.specs.declared.wrote.Wrote.{Wrote}
@@ -35,5 +35,5 @@ Tells old new offer it = ⊥
 
 -- the end once it is shut
 abbrev pub shut_of : RingEnd → RingEnd
-shut_of (Writing writer) = Shut (record { ring = writer.ring; offers = writer.offers })
+shut_of (Writing writer) = Shut (record { ring = writer.ring; offers = writer.offers; marked = true })
 shut_of end = end

@@ -27,7 +27,7 @@ abbrev pub words_in : Part → List ℕ → List ℕ → List ℕ
 words_in part ring copy = take (part.to - part.from) (drop part.from (if part.copied then copy else ring))
 
 abbrev pub found_of : List ℕ → List ℕ → List ℕ → List ℕ → Hand → Found
-found_of slots batch tags batch_tags (Batch words labels) = plain.Batch (words_in words slots batch) (words_in labels tags batch_tags)
+found_of slots batch tags batch_tags (Batch words tag_words) = plain.Batch (words_in words slots batch) (words_in tag_words tags batch_tags)
 found_of slots batch tags batch_tags (Lost count time) = plain.Taken count time
 found_of slots batch tags batch_tags (Raced was found) = plain.Raced was found
 found_of slots batch tags batch_tags Nothing = plain.Nothing
@@ -63,8 +63,8 @@ abbrev pub IsWithin : Part → List ℕ → List ℕ → Type 0
 IsWithin part ring copy = part.to ≤ length (if part.copied then copy else ring)
 
 abbrev pub IsInHand : List ℕ → List ℕ → List ℕ → List ℕ → Hand → Type 0
-IsInHand slots batch tags batch_tags (Batch words labels) =
-    (words.from ≤ words.to) × IsWithin words slots batch × (labels.from ≤ labels.to) × IsWithin labels tags batch_tags
+IsInHand slots batch tags batch_tags (Batch words tag_words) =
+    (words.from ≤ words.to) × IsWithin words slots batch × (tag_words.from ≤ tag_words.to) × IsWithin tag_words tags batch_tags
 IsInHand slots batch tags batch_tags (Lost count time) = Unit {0}
 IsInHand slots batch tags batch_tags (Raced was found) = Unit {0}
 IsInHand slots batch tags batch_tags Nothing = Unit {0}

@@ -10,7 +10,7 @@ use Rattle.gp_ring.specs.Counts.{behind_all}
 use Rattle.gp_ring.specs.Course.{records_for}
 use Rattle.gp_ring.specs.Records.{Offer}
 use Rattle.gp_ring.specs.TwoEnds.{RingOf, WriterEnd, ClosedEnd, ReaderEnd, MayWrite}
-use Rattle.gp_ring.specs.kept.Traces.{all_laid, labels_from}
+use Rattle.gp_ring.specs.kept.Traces.{all_laid, tags_from}
 use Rattle.gp_ring.specs.kept.Views.{IsWithin, IsCounted, IsAhead}
 use Rattle.gp_ring.specs.declared.between.view.View.{View}
 use Rattle.gp_ring.specs.declared.between.steps.Sizes.{Sizes}
@@ -27,7 +27,7 @@ writer_end table v =
     record {
       ring = ring_of table v;
       offers = v.writer.offers;
-      kept = v.writer.kept;
+      records = v.writer.records;
       since = v.writer.since;
       loads = v.writer.loads;
       read = v.writer.read;
@@ -38,15 +38,15 @@ writer_end table v =
     }
 
 abbrev pub closed_end : TableId → View → ClosedEnd
-closed_end table v = record { ring = ring_of table v; offers = v.writer.offers }
+closed_end table v = record { ring = ring_of table v; offers = v.writer.offers; marked = v.writer.closed }
 
 -- what is held as the last answer
-abbrev pub found_of : (words labels : List ℕ) → Held → Found
-found_of words labels Batch = plain.Batch words labels
-found_of words labels (Lost count time) = plain.Taken count time
-found_of words labels (Raced was found) = plain.Raced was found
-found_of words labels Nothing = plain.Nothing
-found_of words labels End = plain.End
+abbrev pub found_of : (words tag_words : List ℕ) → Held → Found
+found_of words tag_words Batch = plain.Batch words tag_words
+found_of words tag_words (Lost count time) = plain.Taken count time
+found_of words tag_words (Raced was found) = plain.Raced was found
+found_of words tag_words Nothing = plain.Nothing
+found_of words tag_words End = plain.End
 
 abbrev pub reader_end : TableId → View → Bool → Found → ReaderEnd
 reader_end table v looked hand =
@@ -86,11 +86,11 @@ pub record IsAt (table seat : TableId) (hdrsize len tags : ℕ) (sizes : Sizes) 
 -- the writer has stored nothing behind the records that it wrote, and its `w` has their counts
 pub record IsReady (v : View) (w since : ℕ) : Type 0 where
   pub draft : v.writer.draft ≡ []
-  pub label : v.writer.label ≡ []
-  pub next : v.writer.next ≡ behind_all v.len 0 v.writer.kept
-  pub next_label : v.writer.next_label ≡ length v.writer.kept
-  pub written_words : words_of w ≡ behind_all v.len 0 v.writer.kept
-  pub written_tags : tags_of w ≡ length v.writer.kept
+  pub tag_draft : v.writer.tag_draft ≡ []
+  pub next : v.writer.next ≡ behind_all v.len 0 v.writer.records
+  pub next_tag : v.writer.next_tag ≡ length v.writer.records
+  pub written_words : words_of w ≡ behind_all v.len 0 v.writer.records
+  pub written_tags : tags_of w ≡ length v.writer.records
   pub none_owed : v.writer.owed ≡ 0
   pub is_open : v.writer.closed ≡ false
   pub since_is : v.writer.since ≡ since
@@ -99,8 +99,8 @@ pub record IsReady (v : View) (w since : ℕ) : Type 0 where
 pub record IsLoaded (v : View) (r overflow : ℕ) : Type 0 where
   pub read : v.writer.read ≡ r
   pub overflow_is : v.writer.overflow ≡ overflow
-  pub flow : v.writer.flow ≡ overflow
-  pub within : IsWithin v.len v.tags r (behind_all v.len 0 v.writer.kept) (length v.writer.kept)
+  pub present : v.writer.present ≡ overflow
+  pub within : IsWithin v.len v.tags r (behind_all v.len 0 v.writer.records) (length v.writer.records)
   pub counted : IsCounted v overflow
 
 pub record IsWriting (table seat : TableId) (me : Me Unit View) (sizes : Sizes) (w since : ℕ) (zeros : List ℕ) : Type 0 where
@@ -117,9 +117,11 @@ pub record IsDeciding (table seat : TableId) (me : Me Unit View) (sizes : Sizes)
   pub words_loaded : IsLoaded me.0 loaded.r loaded.overflow
   pub may : MayWrite (writer_end table me.0) offer
 
+-- the writer's seat, once it stored the end mark
 pub record IsDone (table seat : TableId) (me : Me Unit View) : Type 0 where
   pub seat_is : seat ≡ table
   pub writes : me.0.writes ≡ true
+  pub closed : me.0.writer.closed ≡ true
   pub alone : me.1 ≡ []
 
 -- the reader's `r` has the counts behind the records that were taken
@@ -132,13 +134,14 @@ pub record IsReading (table seat : TableId) (me : Me Unit View) (sizes : Sizes) 
 -- the reader knows what lies before the `w` that it looked at, and has yet to load all of it
 pub record HasSeen (v : View) (end overflow w : ℕ) : Type 0 where
   pub end_is : v.reader.end ≡ end
+  pub end_most : end ≤ 1
   pub overflow_is : v.reader.overflow ≡ overflow
   pub written_is : v.reader.written ≡ w
   pub has_seen : v.reader.has_seen ≡ true
   pub change : change_of overflow ≤ 2 ^ 31
   pub seen : IsAhead v w v.reader.ahead
   pub due : v.reader.due ≡ all_laid v.len (behind_all v.len 0 v.reader.pulled) v.reader.ahead
-  pub due_labels : v.reader.due_labels ≡ labels_from (length v.reader.pulled) v.reader.ahead
+  pub due_tags : v.reader.due_tags ≡ tags_from (length v.reader.pulled) v.reader.ahead
   -- without a record and a loss, behind an end mark, nothing can come any more
   pub over : end ≡ 1 → count_of overflow ≡ 0 → v.reader.ahead ≡ [] → v.reader.is_over ≡ true
 

@@ -29,8 +29,8 @@ all_laid len c [] = []
 all_laid len c (offer ∷ offers) = laid_at len c offer ++ all_laid len (behind len c offer) offers
 
 -- their tags, from tag count t on
-abbrev pub labels_from : ℕ → List Offer → List (ℕ × ℕ)
-labels_from t offers = from_count t (map (λ offer. offer.tag) offers)
+abbrev pub tags_from : ℕ → List Offer → List (ℕ × ℕ)
+tags_from t offers = from_count t (map (λ offer. offer.tag) offers)
 
 -- Each word of a trace has a count below `next`; and from count `from` on it stands, at the place of its count, among the
 -- `width` words from index `base` on.

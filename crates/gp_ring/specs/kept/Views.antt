@@ -8,7 +8,7 @@ use Rattle.gp_ring.specs.Records.{Offer, Covers, fit_twice, words_for_all}
 use Rattle.gp_ring.specs.PlainRing.{piece_for}
 use Rattle.gp_ring.specs.Counts.{behind_all}
 use Rattle.gp_ring.specs.Course.{loss_offer, records_for, IsWhole, StartsWithHead, IsBounded}
-use Rattle.gp_ring.specs.kept.Traces.{from_count, all_laid, labels_from, first_word, mark_of, skip_before}
+use Rattle.gp_ring.specs.kept.Traces.{from_count, all_laid, tags_from, first_word, mark_of, skip_before}
 use Rattle.gp_ring.specs.declared.between.view.View.{View}
 use Rattle.gp_ring.specs.declared.between.view.WriterView.{WriterView}
 use Rattle.gp_ring.specs.declared.between.view.ReaderView.{ReaderView}
@@ -17,13 +17,13 @@ abbrev pub fresh_writer : WriterView
 fresh_writer =
     record {
       offers = [];
-      kept = [];
+      records = [];
       draft = [];
       next = 0;
-      label = [];
-      next_label = 0;
+      tag_draft = [];
+      next_tag = 0;
       since = 0;
-      flow = 0;
+      present = 0;
       owed = 0;
       closed = false;
       loads = 0;
@@ -41,7 +41,7 @@ fresh_reader =
       pulled = [];
       ahead = [];
       due = [];
-      due_labels = [];
+      due_tags = [];
       end_loads = 0;
       end = 0;
       overflow_loads = 0;
@@ -111,12 +111,12 @@ passed_over v skip =
     record v { writer = record v.writer { draft = v.writer.draft ++ mark_of skip v.writer.next; next = v.writer.next + skip } }
 
 -- a tag was stored
-abbrev pub with_label : View → ℕ → View
-with_label v tag =
+abbrev pub with_tag : View → ℕ → View
+with_tag v tag =
     record v {
       writer = record v.writer {
-        label = v.writer.label ++ (v.writer.next_label, tag) ∷ [];
-        next_label = v.writer.next_label + 1;
+        tag_draft = v.writer.tag_draft ++ (v.writer.next_tag, tag) ∷ [];
+        next_tag = v.writer.next_tag + 1;
       };
     }
 
@@ -124,7 +124,7 @@ with_label v tag =
 abbrev pub with_draft : View → Offer → View
 with_draft v offer =
     let skip = skip_before v.len v.writer.next offer in
-    with_label (with_words (passed_over v skip) (piece_for offer).words) offer.tag
+    with_tag (with_words (passed_over v skip) (piece_for offer).words) offer.tag
 
 -- `w` was stored: an offer's record lies in the ring
 abbrev pub with_delivered : View → Offer → View
@@ -132,9 +132,9 @@ with_delivered v offer =
     record v {
       writer = record v.writer {
         offers = v.writer.offers ++ offer ∷ [];
-        kept = v.writer.kept ++ offer ∷ [];
+        records = v.writer.records ++ offer ∷ [];
         draft = [];
-        label = [];
+        tag_draft = [];
       };
     }
 
@@ -144,14 +144,14 @@ owed_of v = loss_offer v.hdrsize v.writer.owed v.writer.since
 
 abbrev pub with_paid : View → View
 with_paid v =
-    record v { writer = record v.writer { kept = v.writer.kept ++ owed_of v ∷ []; draft = []; label = []; owed = 0 } }
+    record v { writer = record v.writer { records = v.writer.records ++ owed_of v ∷ []; draft = []; tag_draft = []; owed = 0 } }
 
 -- ---- the writer and the overflow word
 
 -- overflow was loaded
 abbrev pub with_overflow : View → ℕ → View
 with_overflow v found =
-    record v { writer = record v.writer { flow = found; overflow_loads = v.writer.overflow_loads + 1; overflow = found } }
+    record v { writer = record v.writer { present = found; overflow_loads = v.writer.overflow_loads + 1; overflow = found } }
 
 -- the overflow time was stored
 abbrev pub with_since : View → ℕ → View
@@ -159,7 +159,7 @@ with_since v now = record v { writer = record v.writer { since = now } }
 
 -- an offer is lost, and overflow is this word: it was stored, or came by an exchange
 abbrev pub with_lost : View → Offer → ℕ → View
-with_lost v offer word = record v { writer = record v.writer { offers = v.writer.offers ++ offer ∷ []; flow = word } }
+with_lost v offer word = record v { writer = record v.writer { offers = v.writer.offers ++ offer ∷ []; present = word } }
 
 -- overflow was exchanged, or not
 abbrev pub with_exchange : View → ℕ → View
@@ -167,11 +167,11 @@ with_exchange v found = record v { writer = record v.writer { exchanges = v.writ
 
 -- it wasn't: the reader had taken the loss
 abbrev pub with_raced : View → ℕ → View
-with_raced v found = record v { writer = record v.writer { exchanges = v.writer.exchanges + 1; found = found; flow = found } }
+with_raced v found = record v { writer = record v.writer { exchanges = v.writer.exchanges + 1; found = found; present = found } }
 
 -- the writer took the loss, to write it into the ring
 abbrev pub with_owed : View → ℕ → View
-with_owed v word = record v { writer = record v.writer { flow = word; owed = count_of v.writer.flow } }
+with_owed v word = record v { writer = record v.writer { present = word; owed = count_of v.writer.present } }
 
 -- the end mark was stored
 abbrev pub with_closed : View → View
@@ -184,8 +184,8 @@ abbrev pub with_end : View → ℕ → View
 with_end v found = record v { reader = record v.reader { end_loads = v.reader.end_loads + 1; end = found } }
 
 -- overflow was loaded
-abbrev pub with_flow : View → ℕ → View
-with_flow v found =
+abbrev pub with_pending : View → ℕ → View
+with_pending v found =
     record v {
       reader = record v.reader {
         overflow_loads = v.reader.overflow_loads + 1;
@@ -207,7 +207,7 @@ with_ahead v w ahead =
       reader = record v.reader {
         ahead = ahead;
         due = all_laid v.len (behind_all v.len 0 v.reader.pulled) ahead;
-        due_labels = labels_from (length v.reader.pulled) ahead;
+        due_tags = tags_from (length v.reader.pulled) ahead;
         loads = v.reader.loads + 1;
         written = w;
         has_seen = true;
@@ -219,14 +219,14 @@ with_ahead v w ahead =
 abbrev pub with_due : View → List (ℕ × ℕ) → View
 with_due v due = record v { reader = record v.reader { due = due } }
 
-abbrev pub with_due_labels : View → List (ℕ × ℕ) → View
-with_due_labels v due = record v { reader = record v.reader { due_labels = due } }
+abbrev pub with_due_tags : View → List (ℕ × ℕ) → View
+with_due_tags v due = record v { reader = record v.reader { due_tags = due } }
 
 abbrev pub without_words : View → ℕ → View
 without_words v n = with_due v (drop n v.reader.due)
 
-abbrev pub without_labels : View → ℕ → View
-without_labels v n = with_due_labels v (drop n v.reader.due_labels)
+abbrev pub without_tags : View → ℕ → View
+without_tags v n = with_due_tags v (drop n v.reader.due_tags)
 
 -- `r` was stored: the records that were ahead are taken
 abbrev pub with_batch : View → View
@@ -267,11 +267,11 @@ without_loss v found =
 -- ---- what steps tell
 
 -- between the counts of `r` and the writer's own lies a round at most
-pub record IsWithin (len tags r words labels : ℕ) : Type 0 where
+pub record IsWithin (len tags r words tag_count : ℕ) : Type 0 where
   pub words_before : words_of r ≤ words
   pub words_within : words ≤ words_of r + len
-  pub tags_before : tags_of r ≤ labels
-  pub tags_within : labels ≤ tags_of r + tags
+  pub tags_before : tags_of r ≤ tag_count
+  pub tags_within : tag_count ≤ tags_of r + tags
 
 -- the overflow word that the writer knows, or what the reader left of it when it took the loss
 abbrev pub IsLifted : (before now : ℕ) → Type 0
@@ -281,11 +281,11 @@ IsLifted before now = (0 < count_of before) × (count_of now ≡ 0) × (change_o
 -- offers fit twice over
 pub record IsCounted (v : View) (found : ℕ) : Type 0 where
   pub bounded :
-      IsBounded v.hdrsize v.writer.offers (behind_all v.len 0 v.writer.kept) (length v.writer.kept) (count_of found) v.writer.owed
+      IsBounded v.hdrsize v.writer.offers (behind_all v.len 0 v.writer.records) (length v.writer.records) (count_of found) v.writer.owed
       (change_of found)
   pub fits :
       fit_twice v.hdrsize v.len v.tags v.writer.offers ≡ true
-      → (count_of found ≡ 0) × (behind_all v.len 0 v.writer.kept ≤ 2 * words_for_all v.hdrsize v.writer.offers)
+      → (count_of found ≡ 0) × (behind_all v.len 0 v.writer.records ≤ 2 * words_for_all v.hdrsize v.writer.offers)
 
 -- the counts of `w` are those behind the records that were taken and those ahead, which are a round at most, and whole; where
 -- nothing can come any more, none is ahead
@@ -306,7 +306,7 @@ module _ {S : Type 0} where
   abbrev pub loaded_read : Step S → Me S View → ℕ → Me S View → Type 0
   loaded_read s before r after =
       (after ≡ (with_read before.0 r, before.1))
-      × IsWithin before.0.len before.0.tags r (behind_all before.0.len 0 before.0.writer.kept) (length before.0.writer.kept)
+      × IsWithin before.0.len before.0.tags r (behind_all before.0.len 0 before.0.writer.records) (length before.0.writer.records)
 
   abbrev pub stored_word : Step S → Me S View → ℕ → Me S View → Type 0
   stored_word s before word after = after ≡ (with_words before.0 (word ∷ []), before.1)
@@ -314,8 +314,8 @@ module _ {S : Type 0} where
   abbrev pub stored_mark : Step S → Me S View → ℕ → Me S View → Type 0
   stored_mark s before word after = after ≡ (with_mark before.0, before.1)
 
-  abbrev pub stored_label : Step S → Me S View → ℕ → Me S View → Type 0
-  stored_label s before tag after = after ≡ (with_label before.0 tag, before.1)
+  abbrev pub stored_tag : Step S → Me S View → ℕ → Me S View → Type 0
+  stored_tag s before tag after = after ≡ (with_tag before.0 tag, before.1)
 
   abbrev pub stored_delivered : Offer → Step S → Me S View → ℕ → Me S View → Type 0
   stored_delivered offer s before w after = after ≡ (with_delivered before.0 offer, before.1)
@@ -336,12 +336,12 @@ module _ {S : Type 0} where
   abbrev pub exchanged_flush : Step S → Me S View → ℕ → Me S View → Type 0
   exchanged_flush s before found after =
       (found ≡ s.first → after ≡ (with_exchange (with_owed before.0 s.second) found, before.1))
-      × ((found ≡ s.first → ⊥) → (after ≡ (with_raced before.0 found, before.1)) × IsLifted before.0.writer.flow found)
+      × ((found ≡ s.first → ⊥) → (after ≡ (with_raced before.0 found, before.1)) × IsLifted before.0.writer.present found)
 
   abbrev pub exchanged_bump : Offer → Step S → Me S View → ℕ → Me S View → Type 0
   exchanged_bump offer s before found after =
       (found ≡ s.first → after ≡ (with_exchange (with_lost before.0 offer s.second) found, before.1))
-      × ((found ≡ s.first → ⊥) → (after ≡ (with_raced before.0 found, before.1)) × IsLifted before.0.writer.flow found)
+      × ((found ≡ s.first → ⊥) → (after ≡ (with_raced before.0 found, before.1)) × IsLifted before.0.writer.present found)
 
   abbrev pub stored_end : Step S → Me S View → ℕ → Me S View → Type 0
   stored_end s before word after = after ≡ (with_closed before.0, before.1)
@@ -349,12 +349,13 @@ module _ {S : Type 0} where
   abbrev pub loaded_end : Step S → Me S View → ℕ → Me S View → Type 0
   loaded_end s before found after =
       (after ≡ (with_end before.0 found, before.1))
+      × (found ≤ 1)
       × (before.0.reader.is_over ≡ true → found ≡ 1)
       × (before.0.writes ≡ true → before.0.reader.is_over ≡ true → IsAll before.0)
 
-  abbrev pub loaded_flow : Step S → Me S View → ℕ → Me S View → Type 0
-  loaded_flow s before found after =
-      (after ≡ (with_flow before.0 found, before.1))
+  abbrev pub loaded_pending : Step S → Me S View → ℕ → Me S View → Type 0
+  loaded_pending s before found after =
+      (after ≡ (with_pending before.0 found, before.1))
       × (change_of found ≤ 2 ^ 31)
       × (before.0.reader.is_over ≡ true → count_of found ≡ 0)
 
@@ -365,9 +366,9 @@ module _ {S : Type 0} where
   abbrev pub loaded_word : Step S → Me S View → ℕ → Me S View → Type 0
   loaded_word s before word after = (after ≡ (without_words before.0 1, before.1)) × (word ≡ first_word before.0.reader.due)
 
-  abbrev pub loaded_label : Step S → Me S View → ℕ → Me S View → Type 0
-  loaded_label s before tag after =
-      (after ≡ (without_labels before.0 1, before.1)) × (tag ≡ first_word before.0.reader.due_labels)
+  abbrev pub loaded_tag : Step S → Me S View → ℕ → Me S View → Type 0
+  loaded_tag s before tag after =
+      (after ≡ (without_tags before.0 1, before.1)) × (tag ≡ first_word before.0.reader.due_tags)
 
   abbrev pub stored_read : Step S → Me S View → ℕ → Me S View → Type 0
   stored_read s before r after = after ≡ (with_batch before.0, before.1)

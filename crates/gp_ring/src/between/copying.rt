@@ -4,10 +4,10 @@ ghost use Rattle.std.specs.List.{flat_map};
 ghost use Rattle.gp_layout.specs.Words as bits;
 ghost use Rattle.gp_ring.specs.PlainRing.{piece_for};
 ghost use Rattle.gp_ring.specs.Counts.{behind, behind_all};
-ghost use Rattle.gp_ring.specs.kept.Traces.{from_count, skip_before, all_laid, labels_from, words_in, AreDueAt, IsRecordAt};
-ghost use Rattle.gp_ring.specs.kept.Views.{with_due, with_due_labels, without_words};
+ghost use Rattle.gp_ring.specs.kept.Traces.{from_count, skip_before, all_laid, tags_from, words_in, AreDueAt, IsRecordAt};
+ghost use Rattle.gp_ring.specs.kept.Views.{with_due, with_due_tags, without_words};
 
-use crate::between::steps::{RingSeat, RingWords, Sizes, load_label, load_word};
+use crate::between::steps::{RingSeat, RingWords, Sizes, load_tag, load_word};
 
 // Loads words that are due one behind the other, from place `start` on.
 fn load_words(shared: &RingWords, seat: &mut RingSeat, start: u32, count: u32, to: &mut Vec<u64>)
@@ -130,7 +130,7 @@ pub(crate) fn load_records(
 }
 
 // Loads the tags of all records that are ahead, the first of which comes at tag count `from`.
-pub(crate) fn load_labels(
+pub(crate) fn load_tags(
     shared: &RingWords,
     seat: &mut RingSeat,
     sizes: Sizes,
@@ -145,15 +145,15 @@ pub(crate) fn load_labels(
     requires some { 0 < sizes.tags }
     requires few { from + records < 2 ^ 32 }
     requires records { records ≡ length seat.old.me.0.reader.ahead }
-    requires due { seat.old.me.0.reader.due_labels ≡ labels_from from seat.old.me.0.reader.ahead }
+    requires due { seat.old.me.0.reader.due_tags ≡ tags_from from seat.old.me.0.reader.ahead }
     requires fresh { to.old.items ≡ [] }
     requires room { records ≤ vec_capacity to.old }
     ensures table { seat.new.table_id ≡ seat.old.table_id }
-    ensures view { seat.new.me ≡ (with_due_labels seat.old.me.0 [], seat.old.me.1) }
+    ensures view { seat.new.me ≡ (with_due_tags seat.old.me.0 [], seat.old.me.1) }
     ensures tags { to.new.items ≡ map (λ offer. offer.tag) seat.old.me.0.reader.ahead }
     ensures capacity { vec_capacity to.new ≡ vec_capacity to.old }
 {
     for i in 0..records {
-        to.push_reserved(load_label(shared, seat, sizes.len, (from + i) % sizes.tags));
+        to.push_reserved(load_tag(shared, seat, sizes.len, (from + i) % sizes.tags));
     }
 }

@@ -10,7 +10,7 @@ ghost use Rattle.gp_ring.specs.kept.Views.{with_words, passed_over, with_draft, 
 ghost use Rattle.gp_ring.specs.kept.Slots.{IsRaised};
 
 use crate::between::steps::{
-    RingSeat, RingWords, Sizes, store_delivered, store_label, store_mark, store_paid, store_word,
+    RingSeat, RingWords, Sizes, store_delivered, store_mark, store_paid, store_tag, store_word,
 };
 use gp_layout::{Placed, place, raised, tags_of, words_of};
 use std::marker::Brand;
@@ -20,7 +20,7 @@ fn store_words(shared: &RingWords, seat: &mut RingSeat, start: u32, words: &[u64
     requires table { seat.old.table_id ≡ shared.now.table_id }
     requires size { shared.now.table_id.words ≡ 5 + (seat.old.me.0.len + seat.old.me.0.tags) }
     requires writes { seat.old.me.0.writes ≡ true }
-    requires quiet { bits.count_of seat.old.me.0.writer.flow ≡ 0 }
+    requires quiet { bits.count_of seat.old.me.0.writer.present ≡ 0 }
     requires is_open { seat.old.me.0.writer.closed ≡ false }
     requires len { seat.old.me.0.len ≤ 2 ^ 29 }
     requires place { 0 < length words.now → start ≡ seat.old.me.0.writer.next % seat.old.me.0.len }
@@ -40,7 +40,7 @@ fn pass_over(shared: &RingWords, seat: &mut RingSeat, at: u32, skip: u32)
     requires table { seat.old.table_id ≡ shared.now.table_id }
     requires size { shared.now.table_id.words ≡ 5 + (seat.old.me.0.len + seat.old.me.0.tags) }
     requires writes { seat.old.me.0.writes ≡ true }
-    requires quiet { bits.count_of seat.old.me.0.writer.flow ≡ 0 }
+    requires quiet { bits.count_of seat.old.me.0.writer.present ≡ 0 }
     requires is_open { seat.old.me.0.writer.closed ≡ false }
     requires within { at < seat.old.me.0.len }
     requires place { at ≡ seat.old.me.0.writer.next % seat.old.me.0.len }
@@ -66,7 +66,7 @@ fn store_record(
     requires table { seat.old.table_id ≡ shared.now.table_id }
     requires size { shared.now.table_id.words ≡ 5 + (seat.old.me.0.len + seat.old.me.0.tags) }
     requires writes { seat.old.me.0.writes ≡ true }
-    requires quiet { bits.count_of seat.old.me.0.writer.flow ≡ 0 }
+    requires quiet { bits.count_of seat.old.me.0.writer.present ≡ 0 }
     requires is_open { seat.old.me.0.writer.closed ≡ false }
     requires len { seat.old.me.0.len ≤ 2 ^ 29 }
     requires place { start ≡ seat.old.me.0.writer.next % seat.old.me.0.len }
@@ -98,24 +98,24 @@ fn draw(
     requires table { seat.old.table_id ≡ shared.now.table_id }
     requires size { shared.now.table_id.words ≡ 5 + (seat.old.me.0.len + seat.old.me.0.tags) }
     requires writes { seat.old.me.0.writes ≡ true }
-    requires quiet { bits.count_of seat.old.me.0.writer.flow ≡ 0 }
+    requires quiet { bits.count_of seat.old.me.0.writer.present ≡ 0 }
     requires is_open { seat.old.me.0.writer.closed ≡ false }
     requires sizes { (sizes.len ≡ seat.old.me.0.len) × (sizes.tags ≡ seat.old.me.0.tags) }
     requires some { (0 < sizes.len) × (0 < sizes.tags) }
     requires most { sizes.len ≤ 2 ^ 29 }
     requires draft { seat.old.me.0.writer.draft ≡ [] }
-    requires label { seat.old.me.0.writer.label ≡ [] }
-    requires next { seat.old.me.0.writer.next ≡ behind_all seat.old.me.0.len 0 seat.old.me.0.writer.kept }
-    requires next_label { seat.old.me.0.writer.next_label ≡ length seat.old.me.0.writer.kept }
+    requires tag_draft { seat.old.me.0.writer.tag_draft ≡ [] }
+    requires next { seat.old.me.0.writer.next ≡ behind_all seat.old.me.0.len 0 seat.old.me.0.writer.records }
+    requires next_tag { seat.old.me.0.writer.next_tag ≡ length seat.old.me.0.writer.records }
     requires words { bits.words_of w ≡ seat.old.me.0.writer.next }
-    requires tags { bits.tags_of w ≡ seat.old.me.0.writer.next_label }
+    requires tags { bits.tags_of w ≡ seat.old.me.0.writer.next_tag }
     requires fits { size_of (length header.now) (length stack.now) ≤ sizes.len }
     requires few_words { bits.words_of w + 2 * size_of (length header.now) (length stack.now) < 2 ^ 32 }
     requires few_tags { bits.tags_of w + 1 < 2 ^ 30 }
     requires free { seat.old.me.0.writer.next
         + raise_of (seat.old.me.0.writer.next % sizes.len) sizes.len (size_of (length header.now) (length stack.now))
         ≤ bits.words_of seat.old.me.0.writer.read + sizes.len }
-    requires free_tag { seat.old.me.0.writer.next_label < bits.tags_of seat.old.me.0.writer.read + sizes.tags }
+    requires free_tag { seat.old.me.0.writer.next_tag < bits.tags_of seat.old.me.0.writer.read + sizes.tags }
     ensures table { seat.new.table_id ≡ seat.old.table_id }
     ensures view { seat.new.me ≡ (with_draft seat.old.me.0 (offer_of tag time header.now stack.now), seat.old.me.1) }
     ensures w { IsRaised w result sizes.len (size_of (length header.now) (length stack.now)) }
@@ -125,7 +125,7 @@ fn draw(
     let Placed { skip, start } = place(at, sizes.len, need);
     pass_over(shared, seat, at, skip);
     store_record(shared, seat, start, time, header, stack);
-    store_label(shared, seat, sizes.len, tags_of(w) % sizes.tags, tag);
+    store_tag(shared, seat, sizes.len, tags_of(w) % sizes.tags, tag);
     raised(w, skip + need, 1)
 }
 
@@ -143,17 +143,17 @@ pub(crate) fn emit_offer(
     requires table { seat.old.table_id ≡ shared.now.table_id }
     requires size { shared.now.table_id.words ≡ 5 + (seat.old.me.0.len + seat.old.me.0.tags) }
     requires writes { seat.old.me.0.writes ≡ true }
-    requires quiet { bits.count_of seat.old.me.0.writer.flow ≡ 0 }
+    requires quiet { bits.count_of seat.old.me.0.writer.present ≡ 0 }
     requires is_open { seat.old.me.0.writer.closed ≡ false }
     requires sizes { (sizes.len ≡ seat.old.me.0.len) × (sizes.tags ≡ seat.old.me.0.tags) }
     requires some { (0 < sizes.len) × (0 < sizes.tags) }
     requires most { sizes.len ≤ 2 ^ 29 }
     requires draft { seat.old.me.0.writer.draft ≡ [] }
-    requires label { seat.old.me.0.writer.label ≡ [] }
-    requires next { seat.old.me.0.writer.next ≡ behind_all seat.old.me.0.len 0 seat.old.me.0.writer.kept }
-    requires next_label { seat.old.me.0.writer.next_label ≡ length seat.old.me.0.writer.kept }
+    requires tag_draft { seat.old.me.0.writer.tag_draft ≡ [] }
+    requires next { seat.old.me.0.writer.next ≡ behind_all seat.old.me.0.len 0 seat.old.me.0.writer.records }
+    requires next_tag { seat.old.me.0.writer.next_tag ≡ length seat.old.me.0.writer.records }
     requires words { bits.words_of w ≡ seat.old.me.0.writer.next }
-    requires tags { bits.tags_of w ≡ seat.old.me.0.writer.next_label }
+    requires tags { bits.tags_of w ≡ seat.old.me.0.writer.next_tag }
     requires none_owed { seat.old.me.0.writer.owed ≡ 0 }
     requires offer { IsOffer seat.old.me.0.hdrsize seat.old.me.0.len (offer_of tag time header.now stack.now) }
     requires few { length seat.old.me.0.writer.offers < 2 ^ 30 }
@@ -163,7 +163,7 @@ pub(crate) fn emit_offer(
     requires free { seat.old.me.0.writer.next
         + raise_of (seat.old.me.0.writer.next % sizes.len) sizes.len (size_of (length header.now) (length stack.now))
         ≤ bits.words_of seat.old.me.0.writer.read + sizes.len }
-    requires free_tag { seat.old.me.0.writer.next_label < bits.tags_of seat.old.me.0.writer.read + sizes.tags }
+    requires free_tag { seat.old.me.0.writer.next_tag < bits.tags_of seat.old.me.0.writer.read + sizes.tags }
     ensures table { seat.new.table_id ≡ seat.old.table_id }
     ensures view { seat.new.me ≡ (
       with_delivered (with_draft seat.old.me.0 (offer_of tag time header.now stack.now)) (offer_of tag time header.now stack.now),
@@ -189,17 +189,17 @@ pub(crate) fn emit_loss(
     requires table { seat.old.table_id ≡ shared.now.table_id }
     requires size { shared.now.table_id.words ≡ 5 + (seat.old.me.0.len + seat.old.me.0.tags) }
     requires writes { seat.old.me.0.writes ≡ true }
-    requires quiet { bits.count_of seat.old.me.0.writer.flow ≡ 0 }
+    requires quiet { bits.count_of seat.old.me.0.writer.present ≡ 0 }
     requires is_open { seat.old.me.0.writer.closed ≡ false }
     requires sizes { (sizes.len ≡ seat.old.me.0.len) × (sizes.tags ≡ seat.old.me.0.tags) }
     requires some { (0 < sizes.len) × (0 < sizes.tags) }
     requires most { sizes.len ≤ 2 ^ 29 }
     requires draft { seat.old.me.0.writer.draft ≡ [] }
-    requires label { seat.old.me.0.writer.label ≡ [] }
-    requires next { seat.old.me.0.writer.next ≡ behind_all seat.old.me.0.len 0 seat.old.me.0.writer.kept }
-    requires next_label { seat.old.me.0.writer.next_label ≡ length seat.old.me.0.writer.kept }
+    requires tag_draft { seat.old.me.0.writer.tag_draft ≡ [] }
+    requires next { seat.old.me.0.writer.next ≡ behind_all seat.old.me.0.len 0 seat.old.me.0.writer.records }
+    requires next_tag { seat.old.me.0.writer.next_tag ≡ length seat.old.me.0.writer.records }
     requires words { bits.words_of w ≡ seat.old.me.0.writer.next }
-    requires tags { bits.tags_of w ≡ seat.old.me.0.writer.next_label }
+    requires tags { bits.tags_of w ≡ seat.old.me.0.writer.next_tag }
     requires zeros { zeros.now ≡ replicate seat.old.me.0.hdrsize 0 }
     requires count { seat.old.me.0.writer.owed ≡ count }
     requires time { seat.old.me.0.writer.since ≡ time }
@@ -210,7 +210,7 @@ pub(crate) fn emit_loss(
     requires free { seat.old.me.0.writer.next
         + raise_of (seat.old.me.0.writer.next % sizes.len) sizes.len (loss_size seat.old.me.0.hdrsize)
         ≤ bits.words_of seat.old.me.0.writer.read + sizes.len }
-    requires free_tag { seat.old.me.0.writer.next_label < bits.tags_of seat.old.me.0.writer.read + sizes.tags }
+    requires free_tag { seat.old.me.0.writer.next_tag < bits.tags_of seat.old.me.0.writer.read + sizes.tags }
     ensures table { seat.new.table_id ≡ seat.old.table_id }
     ensures view { seat.new.me ≡ (with_paid (with_draft seat.old.me.0 (owed_of seat.old.me.0)), seat.old.me.1) }
     ensures w { IsRaised w result sizes.len (loss_size seat.old.me.0.hdrsize) }

@@ -8,7 +8,7 @@ ghost use Rattle.gp_ring.specs.TwoEnds.{Looks, Acts, Reads, Settles};
 
 use crate::between::closed::Closed;
 use crate::between::held::{Held, Sight};
-use crate::between::steps::{RingSeat, Sides, Sizes, load_end, load_flow, load_written};
+use crate::between::steps::{RingSeat, Sides, Sizes, load_end, load_pending, load_written};
 use crate::between::taking::act_on;
 use crate::between::writer::RingTable;
 use crate::taken::Taken;
@@ -29,7 +29,7 @@ pub struct Reader {
     // the last answer, and where a batch is copied
     pub(crate) held: Held,
     pub(crate) words: Vec<u64>,
-    pub(crate) labels: Vec<u64>,
+    pub(crate) tag_words: Vec<u64>,
 }
 
 impl Model for Reader {
@@ -42,11 +42,11 @@ impl Model for Reader {
     ghost use Rattle.gp_ring.specs.kept.Halves.{reader_end, found_of, IsReading, HasSeen, IsOverAt};
 
     ghost view = { λ x. reader_end (arc_value x.table).shared.table_id x.seat.me.0 x.looked
-        (found_of x.words.items x.labels.items x.held) };
+        (found_of x.words.items x.tag_words.items x.held) };
 
     ghost invariant = { λ x. IsReading (arc_value x.table).shared.table_id x.seat.table_id x.seat.me x.sizes x.r
         × (x.looked ≡ true → HasSeen x.seat.me.0 x.sight.end x.sight.overflow x.sight.w) × IsOverAt x.seat.me.0 x.held
-        × (x.sizes.len ≤ vec_capacity x.words) × (x.sizes.tags ≤ vec_capacity x.labels) };
+        × (x.sizes.len ≤ vec_capacity x.words) × (x.sizes.tags ≤ vec_capacity x.tag_words) };
 }
 
 impl Reader {
@@ -77,7 +77,7 @@ impl Reader {
             ..
         } = self;
         let end = load_end(&table.shared, seat);
-        let overflow = load_flow(&table.shared, seat);
+        let overflow = load_pending(&table.shared, seat);
         let w = load_written(&table.shared, seat);
         *sight = Sight { end, overflow, w };
         *looked = true;
@@ -97,9 +97,9 @@ impl Reader {
             sight,
             held,
             words,
-            labels,
+            tag_words,
         } = self;
-        *held = act_on(&table.shared, seat, *sizes, r, *sight, words, labels);
+        *held = act_on(&table.shared, seat, *sizes, r, *sight, words, tag_words);
         *looked = false;
     }
 
@@ -110,7 +110,7 @@ impl Reader {
         match self.held {
             Held::Batch => Taken::Batch {
                 words: self.words.as_slice(),
-                tags: self.labels.as_slice(),
+                tags: self.tag_words.as_slice(),
             },
             Held::Lost { count, time } => Taken::Lost { count, time },
             Held::Raced { was, found } => Taken::Raced { was, found },

@@ -5,9 +5,9 @@ ghost use Rattle.gp_ring.specs.Records.{IsOffer, fit_twice};
 ghost use Rattle.gp_ring.specs.Counts.{behind, behind_all};
 ghost use Rattle.gp_ring.specs.Offered.{offer_of};
 ghost use Rattle.gp_ring.specs.kept.Traces.{laid_at, first_word, IsDueAt};
-ghost use Rattle.gp_ring.specs.kept.Views.{with_read, with_words, with_mark, with_label, with_delivered, owed_of, with_paid};
+ghost use Rattle.gp_ring.specs.kept.Views.{with_read, with_words, with_mark, with_tag, with_delivered, owed_of, with_paid};
 ghost use Rattle.gp_ring.specs.kept.Views.{with_overflow, with_since, with_lost, with_exchange, with_raced, with_owed, with_closed};
-ghost use Rattle.gp_ring.specs.kept.Views.{with_end, with_flow, with_ahead, without_words, without_labels, with_batch};
+ghost use Rattle.gp_ring.specs.kept.Views.{with_end, with_pending, with_ahead, without_words, without_tags, with_batch};
 ghost use Rattle.gp_ring.specs.kept.Views.{with_time, with_loss, without_loss};
 ghost use Rattle.gp_ring.specs.kept.Views.{IsWithin, IsLifted, IsCounted, IsAhead, IsAll};
 
@@ -110,12 +110,12 @@ impl Play<(), View> for StoresMark {
     ghost then = { stored_mark };
 }
 
-struct StoresLabel;
+struct StoresTag;
 
-impl Play<(), View> for StoresLabel {
-    ghost use Rattle.gp_ring.specs.kept.Views.{stored_label};
+impl Play<(), View> for StoresTag {
+    ghost use Rattle.gp_ring.specs.kept.Views.{stored_tag};
 
-    ghost then = { stored_label };
+    ghost then = { stored_tag };
 }
 
 struct StoresDelivered<E> {
@@ -196,12 +196,12 @@ impl Play<(), View> for LoadsEnd {
     ghost then = { loaded_end };
 }
 
-struct LoadsFlow;
+struct LoadsPending;
 
-impl Play<(), View> for LoadsFlow {
-    ghost use Rattle.gp_ring.specs.kept.Views.{loaded_flow};
+impl Play<(), View> for LoadsPending {
+    ghost use Rattle.gp_ring.specs.kept.Views.{loaded_pending};
 
-    ghost then = { loaded_flow };
+    ghost then = { loaded_pending };
 }
 
 struct LoadsWritten;
@@ -220,12 +220,12 @@ impl Play<(), View> for LoadsWord {
     ghost then = { loaded_word };
 }
 
-struct LoadsLabel;
+struct LoadsTag;
 
-impl Play<(), View> for LoadsLabel {
-    ghost use Rattle.gp_ring.specs.kept.Views.{loaded_label};
+impl Play<(), View> for LoadsTag {
+    ghost use Rattle.gp_ring.specs.kept.Views.{loaded_tag};
 
-    ghost then = { loaded_label };
+    ghost then = { loaded_tag };
 }
 
 struct StoresRead;
@@ -260,7 +260,7 @@ pub(crate) fn load_read(shared: &RingWords, seat: &mut RingSeat) -> u64
     ensures table { seat.new.table_id ≡ seat.old.table_id }
     ensures view { seat.new.me ≡ (with_read seat.old.me.0 result, seat.old.me.1) }
     ensures within { IsWithin seat.old.me.0.len seat.old.me.0.tags result
-        (behind_all seat.old.me.0.len 0 seat.old.me.0.writer.kept) (length seat.old.me.0.writer.kept) }
+        (behind_all seat.old.me.0.len 0 seat.old.me.0.writer.records) (length seat.old.me.0.writer.records) }
 {
     shared.load::<LoadsRead>(seat, READ)
 }
@@ -270,7 +270,7 @@ pub(crate) fn store_word(shared: &RingWords, seat: &mut RingSeat, place: u32, wo
     requires table { seat.old.table_id ≡ shared.now.table_id }
     requires size { shared.now.table_id.words ≡ 5 + (seat.old.me.0.len + seat.old.me.0.tags) }
     requires writes { seat.old.me.0.writes ≡ true }
-    requires quiet { bits.count_of seat.old.me.0.writer.flow ≡ 0 }
+    requires quiet { bits.count_of seat.old.me.0.writer.present ≡ 0 }
     requires is_open { seat.old.me.0.writer.closed ≡ false }
     requires within { place < seat.old.me.0.len }
     requires place { place ≡ seat.old.me.0.writer.next % seat.old.me.0.len }
@@ -286,7 +286,7 @@ pub(crate) fn store_mark(shared: &RingWords, seat: &mut RingSeat, place: u32)
     requires table { seat.old.table_id ≡ shared.now.table_id }
     requires size { shared.now.table_id.words ≡ 5 + (seat.old.me.0.len + seat.old.me.0.tags) }
     requires writes { seat.old.me.0.writes ≡ true }
-    requires quiet { bits.count_of seat.old.me.0.writer.flow ≡ 0 }
+    requires quiet { bits.count_of seat.old.me.0.writer.present ≡ 0 }
     requires is_open { seat.old.me.0.writer.closed ≡ false }
     requires within { place < seat.old.me.0.len }
     requires place { place ≡ seat.old.me.0.writer.next % seat.old.me.0.len }
@@ -299,20 +299,20 @@ pub(crate) fn store_mark(shared: &RingWords, seat: &mut RingSeat, place: u32)
 }
 
 // Stores a tag behind those before, where by the `r` that was loaded last the reader is done.
-pub(crate) fn store_label(shared: &RingWords, seat: &mut RingSeat, len: u32, place: u32, tag: u64)
+pub(crate) fn store_tag(shared: &RingWords, seat: &mut RingSeat, len: u32, place: u32, tag: u64)
     requires table { seat.old.table_id ≡ shared.now.table_id }
     requires size { shared.now.table_id.words ≡ 5 + (seat.old.me.0.len + seat.old.me.0.tags) }
     requires writes { seat.old.me.0.writes ≡ true }
-    requires quiet { bits.count_of seat.old.me.0.writer.flow ≡ 0 }
+    requires quiet { bits.count_of seat.old.me.0.writer.present ≡ 0 }
     requires is_open { seat.old.me.0.writer.closed ≡ false }
     requires len { len ≡ seat.old.me.0.len }
     requires within { place < seat.old.me.0.tags }
-    requires place { place ≡ seat.old.me.0.writer.next_label % seat.old.me.0.tags }
-    requires free { seat.old.me.0.writer.next_label < bits.tags_of seat.old.me.0.writer.read + seat.old.me.0.tags }
+    requires place { place ≡ seat.old.me.0.writer.next_tag % seat.old.me.0.tags }
+    requires free { seat.old.me.0.writer.next_tag < bits.tags_of seat.old.me.0.writer.read + seat.old.me.0.tags }
     ensures table { seat.new.table_id ≡ seat.old.table_id }
-    ensures view { seat.new.me ≡ (with_label seat.old.me.0 tag, seat.old.me.1) }
+    ensures view { seat.new.me ≡ (with_tag seat.old.me.0 tag, seat.old.me.1) }
 {
-    shared.store::<StoresLabel>(seat, DATA + len as usize + place as usize, tag);
+    shared.store::<StoresTag>(seat, DATA + len as usize + place as usize, tag);
 }
 
 // Stores `w`, by which the record of an offer is published. Its words and its tag stand in the ring.
@@ -328,20 +328,20 @@ pub(crate) fn store_delivered<E: Decided>(
     requires table { seat.old.table_id ≡ shared.now.table_id }
     requires size { shared.now.table_id.words ≡ 5 + (seat.old.me.0.len + seat.old.me.0.tags) }
     requires writes { seat.old.me.0.writes ≡ true }
-    requires quiet { bits.count_of seat.old.me.0.writer.flow ≡ 0 }
+    requires quiet { bits.count_of seat.old.me.0.writer.present ≡ 0 }
     requires is_open { seat.old.me.0.writer.closed ≡ false }
     requires none_owed { seat.old.me.0.writer.owed ≡ 0 }
     requires decided { E.decided ≡ offer_of tag time header.now stack.now }
     requires offer { IsOffer seat.old.me.0.hdrsize seat.old.me.0.len (offer_of tag time header.now stack.now) }
     requires few { length seat.old.me.0.writer.offers < 2 ^ 30 }
     requires draft { seat.old.me.0.writer.draft ≡ laid_at seat.old.me.0.len
-        (behind_all seat.old.me.0.len 0 seat.old.me.0.writer.kept) (offer_of tag time header.now stack.now) }
-    requires label { seat.old.me.0.writer.label ≡ (length seat.old.me.0.writer.kept, tag) ∷ [] }
+        (behind_all seat.old.me.0.len 0 seat.old.me.0.writer.records) (offer_of tag time header.now stack.now) }
+    requires tag_draft { seat.old.me.0.writer.tag_draft ≡ (length seat.old.me.0.writer.records, tag) ∷ [] }
     requires next { seat.old.me.0.writer.next ≡ bits.words_of w }
-    requires next_label { seat.old.me.0.writer.next_label ≡ bits.tags_of w }
+    requires next_tag { seat.old.me.0.writer.next_tag ≡ bits.tags_of w }
     requires words { bits.words_of w ≡ behind seat.old.me.0.len
-        (behind_all seat.old.me.0.len 0 seat.old.me.0.writer.kept) (offer_of tag time header.now stack.now) }
-    requires tags { bits.tags_of w ≡ length seat.old.me.0.writer.kept + 1 }
+        (behind_all seat.old.me.0.len 0 seat.old.me.0.writer.records) (offer_of tag time header.now stack.now) }
+    requires tags { bits.tags_of w ≡ length seat.old.me.0.writer.records + 1 }
     ensures table { seat.new.table_id ≡ seat.old.table_id }
     ensures view { seat.new.me ≡ (with_delivered seat.old.me.0 (offer_of tag time header.now stack.now), seat.old.me.1) }
 {
@@ -355,17 +355,17 @@ pub(crate) fn store_paid(shared: &RingWords, seat: &mut RingSeat, w: u64)
     requires table { seat.old.table_id ≡ shared.now.table_id }
     requires size { shared.now.table_id.words ≡ 5 + (seat.old.me.0.len + seat.old.me.0.tags) }
     requires writes { seat.old.me.0.writes ≡ true }
-    requires quiet { bits.count_of seat.old.me.0.writer.flow ≡ 0 }
+    requires quiet { bits.count_of seat.old.me.0.writer.present ≡ 0 }
     requires is_open { seat.old.me.0.writer.closed ≡ false }
     requires some_owed { 0 < seat.old.me.0.writer.owed }
     requires draft { seat.old.me.0.writer.draft ≡ laid_at seat.old.me.0.len
-        (behind_all seat.old.me.0.len 0 seat.old.me.0.writer.kept) (owed_of seat.old.me.0) }
-    requires label { seat.old.me.0.writer.label ≡ (length seat.old.me.0.writer.kept, 0) ∷ [] }
+        (behind_all seat.old.me.0.len 0 seat.old.me.0.writer.records) (owed_of seat.old.me.0) }
+    requires tag_draft { seat.old.me.0.writer.tag_draft ≡ (length seat.old.me.0.writer.records, 0) ∷ [] }
     requires next { seat.old.me.0.writer.next ≡ bits.words_of w }
-    requires next_label { seat.old.me.0.writer.next_label ≡ bits.tags_of w }
+    requires next_tag { seat.old.me.0.writer.next_tag ≡ bits.tags_of w }
     requires words { bits.words_of w ≡ behind seat.old.me.0.len
-        (behind_all seat.old.me.0.len 0 seat.old.me.0.writer.kept) (owed_of seat.old.me.0) }
-    requires tags { bits.tags_of w ≡ length seat.old.me.0.writer.kept + 1 }
+        (behind_all seat.old.me.0.len 0 seat.old.me.0.writer.records) (owed_of seat.old.me.0) }
+    requires tags { bits.tags_of w ≡ length seat.old.me.0.writer.records + 1 }
     ensures table { seat.new.table_id ≡ seat.old.table_id }
     ensures view { seat.new.me ≡ (with_paid seat.old.me.0, seat.old.me.1) }
 {
@@ -389,7 +389,7 @@ pub(crate) fn store_since(shared: &RingWords, seat: &mut RingSeat, now: u64)
     requires table { seat.old.table_id ≡ shared.now.table_id }
     requires size { shared.now.table_id.words ≡ 5 + (seat.old.me.0.len + seat.old.me.0.tags) }
     requires writes { seat.old.me.0.writes ≡ true }
-    requires quiet { bits.count_of seat.old.me.0.writer.flow ≡ 0 }
+    requires quiet { bits.count_of seat.old.me.0.writer.present ≡ 0 }
     requires is_open { seat.old.me.0.writer.closed ≡ false }
     requires none_owed { seat.old.me.0.writer.owed ≡ 0 }
     ensures table { seat.new.table_id ≡ seat.old.table_id }
@@ -411,18 +411,18 @@ pub(crate) fn store_lost<E: Decided>(
     requires table { seat.old.table_id ≡ shared.now.table_id }
     requires size { shared.now.table_id.words ≡ 5 + (seat.old.me.0.len + seat.old.me.0.tags) }
     requires writes { seat.old.me.0.writes ≡ true }
-    requires quiet { bits.count_of seat.old.me.0.writer.flow ≡ 0 }
+    requires quiet { bits.count_of seat.old.me.0.writer.present ≡ 0 }
     requires is_open { seat.old.me.0.writer.closed ≡ false }
     requires none_owed { seat.old.me.0.writer.owed ≡ 0 }
     requires draft { seat.old.me.0.writer.draft ≡ [] }
-    requires label { seat.old.me.0.writer.label ≡ [] }
+    requires tag_draft { seat.old.me.0.writer.tag_draft ≡ [] }
     requires decided { E.decided ≡ offer_of tag time header.now stack.now }
     requires few { length seat.old.me.0.writer.offers < 2 ^ 30 }
     requires since { seat.old.me.0.writer.since ≡ time }
     requires full { fit_twice seat.old.me.0.hdrsize seat.old.me.0.len seat.old.me.0.tags
         (seat.old.me.0.writer.offers ++ offer_of tag time header.now stack.now ∷ []) ≡ false }
     requires count { bits.count_of word ≡ 1 }
-    requires change { bits.change_of word ≡ bits.change_of seat.old.me.0.writer.flow + 1 }
+    requires change { bits.change_of word ≡ bits.change_of seat.old.me.0.writer.present + 1 }
     ensures table { seat.new.table_id ≡ seat.old.table_id }
     ensures view { seat.new.me ≡ (with_lost seat.old.me.0 (offer_of tag time header.now stack.now) word, seat.old.me.1) }
 {
@@ -442,9 +442,9 @@ pub(crate) fn exchange_flush(
     requires size { shared.now.table_id.words ≡ 5 + (seat.old.me.0.len + seat.old.me.0.tags) }
     requires writes { seat.old.me.0.writes ≡ true }
     requires draft { seat.old.me.0.writer.draft ≡ [] }
-    requires label { seat.old.me.0.writer.label ≡ [] }
+    requires tag_draft { seat.old.me.0.writer.tag_draft ≡ [] }
     requires is_open { seat.old.me.0.writer.closed ≡ false }
-    requires flow { seat.old.me.0.writer.flow ≡ overflow }
+    requires present { seat.old.me.0.writer.present ≡ overflow }
     requires pending { 0 < bits.count_of overflow }
     requires count { bits.count_of word ≡ 0 }
     requires change { bits.change_of word ≡ bits.change_of overflow + 1 }
@@ -473,7 +473,7 @@ pub(crate) fn exchange_bump<E: Decided>(
     requires decided { E.decided ≡ offer_of tag time header.now stack.now }
     requires is_open { seat.old.me.0.writer.closed ≡ false }
     requires few { length seat.old.me.0.writer.offers < 2 ^ 30 }
-    requires flow { seat.old.me.0.writer.flow ≡ overflow }
+    requires present { seat.old.me.0.writer.present ≡ overflow }
     requires pending { 0 < bits.count_of overflow }
     requires count { bits.count_of word ≡ bits.count_of overflow + 1 }
     requires change { bits.change_of word ≡ bits.change_of overflow }
@@ -495,37 +495,38 @@ pub(crate) fn store_end(shared: &RingWords, seat: &mut RingSeat)
     requires writes { seat.old.me.0.writes ≡ true }
     requires none_owed { seat.old.me.0.writer.owed ≡ 0 }
     requires draft { seat.old.me.0.writer.draft ≡ [] }
-    requires label { seat.old.me.0.writer.label ≡ [] }
+    requires tag_draft { seat.old.me.0.writer.tag_draft ≡ [] }
     ensures table { seat.new.table_id ≡ seat.old.table_id }
     ensures view { seat.new.me ≡ (with_closed seat.old.me.0, seat.old.me.1) }
 {
     shared.store::<StoresEnd>(seat, END, 1);
 }
 
-// Loads the end mark.
+// Loads the end mark, which is 0 or 1.
 pub(crate) fn load_end(shared: &RingWords, seat: &mut RingSeat) -> u64
     requires table { seat.old.table_id ≡ shared.now.table_id }
     requires size { shared.now.table_id.words ≡ 5 + (seat.old.me.0.len + seat.old.me.0.tags) }
     requires reads { seat.old.me.0.reads ≡ true }
     ensures table { seat.new.table_id ≡ seat.old.table_id }
     ensures view { seat.new.me ≡ (with_end seat.old.me.0 result, seat.old.me.1) }
+    ensures mark { result ≤ 1 }
     ensures over { seat.old.me.0.reader.is_over ≡ true → result ≡ 1 }
     ensures all { seat.old.me.0.writes ≡ true → seat.old.me.0.reader.is_over ≡ true → IsAll seat.old.me.0 }
 {
     shared.load::<LoadsEnd>(seat, END)
 }
 
-// The reader loads overflow.
-pub(crate) fn load_flow(shared: &RingWords, seat: &mut RingSeat) -> u64
+// The reader loads overflow: the loss that is pending, if there is one.
+pub(crate) fn load_pending(shared: &RingWords, seat: &mut RingSeat) -> u64
     requires table { seat.old.table_id ≡ shared.now.table_id }
     requires size { shared.now.table_id.words ≡ 5 + (seat.old.me.0.len + seat.old.me.0.tags) }
     requires reads { seat.old.me.0.reads ≡ true }
     ensures table { seat.new.table_id ≡ seat.old.table_id }
-    ensures view { seat.new.me ≡ (with_flow seat.old.me.0 result, seat.old.me.1) }
+    ensures view { seat.new.me ≡ (with_pending seat.old.me.0 result, seat.old.me.1) }
     ensures change { bits.change_of result ≤ 2 ^ 31 }
     ensures over { seat.old.me.0.reader.is_over ≡ true → bits.count_of result ≡ 0 }
 {
-    shared.load::<LoadsFlow>(seat, OVERFLOW)
+    shared.load::<LoadsPending>(seat, OVERFLOW)
 }
 
 // Loads `w`: which records are ahead.
@@ -555,18 +556,18 @@ pub(crate) fn load_word(shared: &RingWords, seat: &mut RingSeat, place: u32) -> 
 }
 
 // Loads the next tag that is due.
-pub(crate) fn load_label(shared: &RingWords, seat: &mut RingSeat, len: u32, place: u32) -> u64
+pub(crate) fn load_tag(shared: &RingWords, seat: &mut RingSeat, len: u32, place: u32) -> u64
     requires table { seat.old.table_id ≡ shared.now.table_id }
     requires size { shared.now.table_id.words ≡ 5 + (seat.old.me.0.len + seat.old.me.0.tags) }
     requires reads { seat.old.me.0.reads ≡ true }
     requires len { len ≡ seat.old.me.0.len }
     requires within { place < seat.old.me.0.tags }
-    requires due { IsDueAt place seat.old.me.0.tags seat.old.me.0.reader.due_labels }
+    requires due { IsDueAt place seat.old.me.0.tags seat.old.me.0.reader.due_tags }
     ensures table { seat.new.table_id ≡ seat.old.table_id }
-    ensures view { seat.new.me ≡ (without_labels seat.old.me.0 1, seat.old.me.1) }
-    ensures tag { result ≡ first_word seat.old.me.0.reader.due_labels }
+    ensures view { seat.new.me ≡ (without_tags seat.old.me.0 1, seat.old.me.1) }
+    ensures tag { result ≡ first_word seat.old.me.0.reader.due_tags }
 {
-    shared.load::<LoadsLabel>(seat, DATA + len as usize + place as usize)
+    shared.load::<LoadsTag>(seat, DATA + len as usize + place as usize)
 }
 
 // Stores `r`, by which the words of the batch are given back. All of them were loaded.
@@ -575,7 +576,7 @@ pub(crate) fn store_read(shared: &RingWords, seat: &mut RingSeat, r: u64)
     requires size { shared.now.table_id.words ≡ 5 + (seat.old.me.0.len + seat.old.me.0.tags) }
     requires reads { seat.old.me.0.reads ≡ true }
     requires words_loaded { seat.old.me.0.reader.due ≡ [] }
-    requires tags_loaded { seat.old.me.0.reader.due_labels ≡ [] }
+    requires tags_loaded { seat.old.me.0.reader.due_tags ≡ [] }
     requires words { bits.words_of r ≡ behind_all seat.old.me.0.len 0
         (seat.old.me.0.reader.pulled ++ seat.old.me.0.reader.ahead) }
     requires tags { bits.tags_of r ≡ length (seat.old.me.0.reader.pulled ++ seat.old.me.0.reader.ahead) }
@@ -606,7 +607,7 @@ pub(crate) fn exchange_loss(
     requires table { seat.old.table_id ≡ shared.now.table_id }
     requires size { shared.now.table_id.words ≡ 5 + (seat.old.me.0.len + seat.old.me.0.tags) }
     requires reads { seat.old.me.0.reads ≡ true }
-    requires flow { seat.old.me.0.reader.overflow ≡ overflow }
+    requires present { seat.old.me.0.reader.overflow ≡ overflow }
     requires pending { 0 < bits.count_of overflow }
     requires has_seen { seat.old.me.0.reader.has_seen ≡ true }
     requires is_timed { seat.old.me.0.reader.is_timed ≡ true }

@@ -21,18 +21,18 @@ impl Model for Told {
 }
 
 /// What the writer knows: the offers that are decided; the records that it wrote; the words and the tag that it stored behind
-/// them, each with its count, and the counts behind those; the overflow time that it stored; the overflow word, unless the reader
-/// took its loss since; how many offers the loss counts that it took itself and has yet to write; whether it stored the end mark.
+/// them, each with its count, and the counts behind those; the overflow time that it stored; the present overflow word, unless the
+/// reader took its loss since; how many offers the loss counts that it took itself and has yet to write; whether it stored the end mark.
 /// And how often it loaded `r`, loaded overflow and exchanged overflow, and what it found last.
 pub(crate) struct WriterView {
     pub(crate) offers: LinkedList<Told>,
-    pub(crate) kept: LinkedList<Told>,
+    pub(crate) records: LinkedList<Told>,
     pub(crate) draft: LinkedList<(u64, u64)>,
     pub(crate) next: u64,
-    pub(crate) label: LinkedList<(u64, u64)>,
-    pub(crate) next_label: u64,
+    pub(crate) tag_draft: LinkedList<(u64, u64)>,
+    pub(crate) next_tag: u64,
     pub(crate) since: u64,
-    pub(crate) flow: u64,
+    pub(crate) present: u64,
     pub(crate) owed: u64,
     pub(crate) closed: bool,
     pub(crate) loads: u64,
@@ -52,7 +52,7 @@ pub(crate) struct ReaderView {
     pub(crate) pulled: LinkedList<Told>,
     pub(crate) ahead: LinkedList<Told>,
     pub(crate) due: LinkedList<(u64, u64)>,
-    pub(crate) due_labels: LinkedList<(u64, u64)>,
+    pub(crate) due_tags: LinkedList<(u64, u64)>,
     pub(crate) end_loads: u64,
     pub(crate) end: u64,
     pub(crate) overflow_loads: u64,

@@ -1,4 +1,4 @@
-ghost use Rattle.std.specs.Prelude.{◌≡◌, [], ◌∷◌, ◌++◌, length};
+ghost use Rattle.std.specs.Prelude.{◌≡◌, [], ◌∷◌, ◌++◌, length, true};
 ghost use Rattle.gp_layout.specs.Words as bits;
 ghost use Rattle.gp_ring.specs.Offered.{offer_of};
 ghost use Rattle.gp_ring.specs.TwoEnds.{MayWrite, with_found, wrote, written, written_words};
@@ -59,7 +59,7 @@ impl Writer {
     /// The word `w`: the data count and the tag count of what was written.
     pub fn written_word(&self) -> u64
         ensures words { bits.words_of result ≡ written_words self.now }
-        ensures tags { bits.tags_of result ≡ length self.now.kept }
+        ensures tags { bits.tags_of result ≡ length self.now.records }
     {
         self.pen.w
     }
@@ -104,6 +104,7 @@ impl Writer {
     pub fn close(self) -> Closed
         ensures ring { result.ring ≡ self.ring }
         ensures offers { result.offers ≡ self.offers }
+        ensures marked { result.marked ≡ true }
     {
         let Writer {
             table,

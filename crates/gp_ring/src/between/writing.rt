@@ -43,18 +43,18 @@ fn begin_loss(
     requires size { shared.now.table_id.words ≡ 5 + (seat.old.me.0.len + seat.old.me.0.tags) }
     requires writes { seat.old.me.0.writes ≡ true }
     requires quiet { bits.count_of overflow ≡ 0 }
-    requires flow { seat.old.me.0.writer.flow ≡ overflow }
+    requires present { seat.old.me.0.writer.present ≡ overflow }
     requires is_open { seat.old.me.0.writer.closed ≡ false }
     requires none_owed { seat.old.me.0.writer.owed ≡ 0 }
     requires draft { seat.old.me.0.writer.draft ≡ [] }
-    requires label { seat.old.me.0.writer.label ≡ [] }
+    requires tag_draft { seat.old.me.0.writer.tag_draft ≡ [] }
     requires few { length seat.old.me.0.writer.offers < 2 ^ 30 }
     requires change { bits.change_of overflow + 1 < 2 ^ 32 }
     requires full { fit_twice seat.old.me.0.hdrsize seat.old.me.0.len seat.old.me.0.tags
         (seat.old.me.0.writer.offers ++ offer_of tag now header.now stack.now ∷ []) ≡ false }
     ensures table { seat.new.table_id ≡ seat.old.table_id }
     ensures view { seat.new.me ≡ (
-      with_lost (with_since seat.old.me.0 now) (offer_of tag now header.now stack.now) seat.new.me.0.writer.flow,
+      with_lost (with_since seat.old.me.0 now) (offer_of tag now header.now stack.now) seat.new.me.0.writer.present,
       seat.old.me.1,
     ) }
 {

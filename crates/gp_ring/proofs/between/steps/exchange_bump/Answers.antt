@@ -16,5 +16,5 @@ compare_exchange-requires g c =
       omega (arith, c.requires.size),
       subst (λ (o : Offer). Allows IsRing c.args.shared.now.table_id.slots c.args.seat.now.id c.args.seat.now.me 2 (λ n. either (n == c.args.overflow) c.args.word n)
           (exchanged_bump o (step c.args.shared.now.table_id.slots 2 c.args.overflow c.args.word none) c.args.seat.now.me)) (sym r.decided)
-          (exchanges_bump _ _ _ c.args.overflow c.args.word (offer_of c.args.tag c.args.time c.args.header.now c.args.stack.now) r.writes r.is_open r.few r.flow r.pending r.count r.change),
+          (exchanges_bump _ _ _ c.args.overflow c.args.word (offer_of c.args.tag c.args.time c.args.header.now c.args.stack.now) r.writes r.is_open r.few r.present r.pending r.count r.change),
     )

@@ -14,5 +14,5 @@ store-requires g c =
       r.table,
       omega (arith, c.requires.size),
       subst (λ (o : Offer). Allows IsRing c.args.shared.now.table_id.slots c.args.seat.now.id c.args.seat.now.me 1 (λ _. c.args.w) (λ _. stored_delivered o (step 0 0 0 0 none) c.args.seat.now.me c.args.w)) (sym r.decided)
-          (stores_delivered _ _ _ c.args.w (offer_of c.args.tag c.args.time c.args.header.now c.args.stack.now) (step 0 0 0 0 none) r.writes r.quiet r.is_open r.none_owed r.offer r.few r.draft r.label r.next r.next_label r.words r.tags),
+          (stores_delivered _ _ _ c.args.w (offer_of c.args.tag c.args.time c.args.header.now c.args.stack.now) (step 0 0 0 0 none) r.writes r.quiet r.is_open r.none_owed r.offer r.few r.draft r.tag_draft r.next r.next_tag r.words r.tags),
     )

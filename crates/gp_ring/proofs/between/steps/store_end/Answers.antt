@@ -7,4 +7,4 @@ use Rattle.gp_ring.proofs.between.steps.store_end.Goals as goal
 pub store-requires : goal.store-requires
 store-requires c =
     let r = c.requires in
-    (r.table, omega (arith, c.requires.size), stores_end _ _ _ (step 0 0 0 0 none) r.writes r.none_owed r.draft r.label)
+    (r.table, omega (arith, c.requires.size), stores_end _ _ _ (step 0 0 0 0 none) r.writes r.none_owed r.draft r.tag_draft)

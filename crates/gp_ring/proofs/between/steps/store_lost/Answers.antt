@@ -14,5 +14,5 @@ store-requires g c =
       r.table,
       omega (arith, c.requires.size),
       subst (λ (o : Offer). Allows IsRing c.args.shared.now.table_id.slots c.args.seat.now.id c.args.seat.now.me 2 (λ _. c.args.word) (λ _. stored_lost o (step 0 0 0 0 none) c.args.seat.now.me c.args.word)) (sym r.decided)
-          (stores_lost _ _ _ c.args.word (offer_of c.args.tag c.args.time c.args.header.now c.args.stack.now) (step 0 0 0 0 none) r.writes r.quiet r.is_open r.none_owed r.draft r.label r.few r.since r.full r.count r.change),
+          (stores_lost _ _ _ c.args.word (offer_of c.args.tag c.args.time c.args.header.now c.args.stack.now) (step 0 0 0 0 none) r.writes r.quiet r.is_open r.none_owed r.draft r.tag_draft r.few r.since r.full r.count r.change),
     )

@@ -22,7 +22,7 @@ returns-then-from-to-clause-reading c =
 pub returns-then-from-to-clause-acts : goal.returns-then-from-to-clause-acts
 returns-then-from-to-clause-acts c = λ (hand : Found).
     batch-acts c.args.shared.now.table_id _ hand c.args.r.now _ _ _ c.requires.seen c.requires.reading.read_tags c.take_batch.new.seat.me.0 _ _
-    (omega (arith, c.if-from-to.true, c.tags_of-from.ensures, c.tags_of-to.ensures)) (ap (λ (m : Me Unit View). m.0) c.take_batch.ensures.view) c.take_batch.ensures.words c.take_batch.ensures.labels
+    (omega (arith, c.if-from-to.true, c.tags_of-from.ensures, c.tags_of-to.ensures)) (ap (λ (m : Me Unit View). m.0) c.take_batch.ensures.view) c.take_batch.ensures.words c.take_batch.ensures.tag_words
 
 -- ---- nothing
 

@@ -21,7 +21,7 @@ returns-then-found-overflow-clause-reading c =
     c.requires.reading (c.exchange_loss-found.ensures.table ∙ c.load_since-time.ensures.table) e refl refl refl refl refl
 
 pub returns-then-found-overflow-clause-acts : goal.returns-then-found-overflow-clause-acts
-returns-then-found-overflow-clause-acts c = λ (hand : Found) (words labels : List ℕ).
+returns-then-found-overflow-clause-acts c = λ (hand : Found) (words tag_words : List ℕ).
     let t = c.load_since-time.ensures.view in
     let e = c.exchange_loss-found.ensures.raced c.if-found-overflow.true ∙ (λ i. (without_loss (t i).0 c.exchange_loss-found.result, (t i).1)) in
     race-acts c.args.shared.now.table_id _ hand c.args.r _ _ _ c.requires.seen c.requires.reading.read_tags c.exchange_loss-found.new.seat.me.0 c.load_since-time.result c.exchange_loss-found.result
@@ -35,7 +35,7 @@ returns-clause-reading c =
     c.requires.reading (c.exchange_loss-found.ensures.table ∙ c.load_since-time.ensures.table) e refl refl refl refl refl
 
 pub returns-clause-acts : goal.returns-clause-acts
-returns-clause-acts c = λ (hand : Found) (words labels : List ℕ).
+returns-clause-acts c = λ (hand : Found) (words tag_words : List ℕ).
     let t = c.load_since-time.ensures.view in
     let e = c.exchange_loss-found.ensures.won c.if-found-overflow.false ∙ (λ i. (with_loss (t i).0 c.exchange_loss-found.result, (t i).1)) in
     subst (λ (k : ℕ). Acts (reader_end c.args.shared.now.table_id c.args.seat.now.me.0 true hand) (reader_end c.args.shared.now.table_id c.exchange_loss-found.new.seat.me.0 false (Taken k c.load_since-time.result)))

@@ -57,7 +57,7 @@ emit_offer-pen-requires-2-clause-next c =
     let size : loss_size c.args.seat.now.me.0.hdrsize ≡ loss_size c.exchange_flush.new.seat.me.0.hdrsize = (λ i. loss_size (sym e i).0.hdrsize) in
     let ready = paid-ready c.args.seat.now.me.0 c.args.pen.now.w c.args.pen.now.since c.emit_loss-behind.result c.args.sizes.len (loss_size c.exchange_flush.new.seat.me.0.hdrsize) c.taken.result c.exchange_flush.result
     d.writing.seated.len_is size call.ensures.w d.writing.ready in
-    subst (λ (m : Me Unit View). m.0.writer.next ≡ behind_all m.0.len 0 m.0.writer.kept) (sym e2) ready.next
+    subst (λ (m : Me Unit View). m.0.writer.next ≡ behind_all m.0.len 0 m.0.writer.records) (sym e2) ready.next
 
 pub emit_offer-pen-requires-2-clause-few_words : goal.emit_offer-pen-requires-2-clause-few_words
 emit_offer-pen-requires-2-clause-few_words c =
