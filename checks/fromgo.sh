@@ -238,6 +238,14 @@ for odd in cpu.pb odd.txt empty.txt odd.gz cut.pb missing .; do
   [ "$?:$(wc -l <told):$(wc -c <said)" = 1:1:0 ] && grep -q '^fromgo: ' told || fail "$odd: '$(cat told)'"
 done
 
+# An output of which somebody reads a part alone is no fault, and one that can't be written is told by one line.
+python3 "$top/tools/fromgo" own.pb 2>told | head -n 1 >said
+[ "${PIPESTATUS[0]}:$(grep -vc '^fromgo: ' told)" = 0:0 ] || fail "behind head: '$(cat told)'"
+if [ -w /dev/full ]; then
+  python3 "$top/tools/fromgo" own.pb >/dev/full 2>told
+  [ "$?:$(cat told)" = '1:fromgo: the output: No space left on device' ] || fail "on a full output: '$(cat told)'"
+fi
+
 # The dumps of a real service, in each form that Go writes.
 if [ "$has_go" = yes ]; then
   cat >service.go <<'END_GO'

@@ -187,6 +187,14 @@ for ((i = 0; i < 30; i++)); do
   [ "$?:$said" = '0:end main' ] || fail "short in Go: '$said'"
 done
 
+# An output of which somebody reads a part alone is no fault, and one that can't be written is told by one line.
+python3 "$top/tools/gp2go" waits.gp 2>told | head -n 1 >said
+[ "${PIPESTATUS[0]}:$(grep -vc '^gp2go: ' told)" = 0:0 ] || fail "behind head: '$(cat told)'"
+if [ -w /dev/full ]; then
+  python3 "$top/tools/gp2go" waits.gp >/dev/full 2>told
+  [ "$?:$(cat told)" = '1:gp2go: the output: No space left on device' ] || fail "on a full output: '$(cat told)'"
+fi
+
 # What isn't a program is refused.
 printf 'func main {\nwait 1\n}\n' >odd.gp
 python3 "$top/tools/gp2go" odd.gp >said 2>told

@@ -131,6 +131,15 @@ orders 1 two.gp --out own
 [ "$(ls own)" = mine ] || fail "a folder of another is changed"
 orders 0 --help
 says '--shrink'
+# An output of which somebody reads a part alone changes nothing; one that can't be written, and a folder, are told by one line.
+"$top/tools/orders" two.gp --seeds 8 2>told | head -n 1 >said
+[ "${PIPESTATUS[0]}" = 10 ] && [ ! -s told ] && [ "$(wc -l <two.orders/orders.txt)" -gt 8 ] || fail "behind head: '$(cat told)'"
+if [ -w /dev/full ]; then
+  "$top/tools/orders" two.gp --seeds 8 >/dev/full 2>told
+  [ "$?:$(cat told)" = '4:orders: the output: No space left on device' ] || fail "on a full output: '$(cat told)'"
+fi
+orders 4 two.gp --seeds 8 --out own/mine/none
+[ "$(wc -l <told)" = 1 ] && grep -q '^orders: own/mine/none' told || fail "a folder that can't be made: '$(cat told)'"
 [ -z "$(ls -A tmp)" ] || fail "left behind is $(ls -A tmp)"
 
 [ "$failures" = 0 ]
