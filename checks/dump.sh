@@ -22,6 +22,7 @@ for kind in goroutine heap cpu block mutex; do
   grep -q '^duration ' said || fail "gp dump $kind.pb tells no duration"
   cmp -s -- wanted got || fail "gp dump $kind.pb: in place of what pprof shows: $(diff wanted got | head -n 6)"
 done
-./dumper change "$gp" goroutine.pb 1000 || fail "a changed profile isn't read or refused"
+# (a thousand calls of the program itself, since the launcher takes longer than it does)
+./dumper change "$("$gp" --version | sed -n 's/^program //p')" goroutine.pb 1000 || fail "a changed profile isn't read or refused"
 
 [ "$failures" = 0 ]
