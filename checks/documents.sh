@@ -103,9 +103,9 @@ done
   printf '%s\n' --help --version
   command -v python3 >/dev/null && for tool in orders gp2go fromgo; do python3 "$top/tools/$tool" --help; done
 } | grep -oE -- '--[a-z]+' | sort -u >options
-for option in $(cd -- "$top" && grep -hvE 'protoc|go tool|rt |sed ' $documents CHANGELOG.md | grep -oE '(^|[^-A-Za-z0-9])--[a-z]+' | grep -oE -- '--[a-z]+' | sort -u); do
-  grep -qx -e "$option" options || ! command -v python3 >/dev/null || fail "a document names an option $option, which isn't there"
-done
+(cd -- "$top" && grep -hvE 'protoc|go tool|rt |sed ' $documents CHANGELOG.md) | grep -oE '(^|[^-A-Za-z0-9])--[a-z]+' |
+  grep -oE -- '--[a-z]+' | sort -u >named
+command -v python3 >/dev/null && for option in $(comm -13 options named); do fail "a document names an option $option, which isn't there"; done
 
 # What README.md says before what is proved goes on two screens of fifty lines, and docs/COMMANDS.md begins with the usual commands and
 # with what to do for each status.
