@@ -97,6 +97,23 @@ for document in $documents; do
   done
 done
 
+# The options that they name are gp's or those of a tool, or of another program's where that is called in the same line.
+{
+  grep -oE '^\| `--[a-z]+`' "$top/docs/COMMANDS.md"
+  printf '%s\n' --help --version
+  command -v python3 >/dev/null && for tool in orders gp2go fromgo; do python3 "$top/tools/$tool" --help; done
+} | grep -oE -- '--[a-z]+' | sort -u >options
+(cd -- "$top" && grep -hvE 'protoc|go tool|rt |sed ' $documents CHANGELOG.md) | grep -oE '(^|[^-A-Za-z0-9])--[a-z]+' |
+  grep -oE -- '--[a-z]+' | sort -u >named
+command -v python3 >/dev/null && for option in $(comm -13 options named); do fail "a document names an option $option, which isn't there"; done
+
+# What README.md says before what is proved goes on two screens of fifty lines, and docs/COMMANDS.md begins with the usual commands and
+# with what to do for each status.
+lines=$(sed '/^## What is proved/,$d' "$top/README.md" | wc -l)
+[ "$lines" -le 100 ] || fail "README.md has $lines lines before what is proved"
+[ "$(grep -E '^## ' "$top/docs/COMMANDS.md" | head -n 1)" = '## Exit statuses' ] || fail "docs/COMMANDS.md doesn't begin with the statuses"
+[ "$(sed '/^## /,$d' "$top/docs/COMMANDS.md" | grep -cE '^(\./gp (run|sim)|go tool pprof) ')" = 3 ] || fail "docs/COMMANDS.md doesn't begin with three commands"
+
 # The names of crates, definitions, clauses and calls that docs/PROVED.md has in backquotes.
 (cd -- "$top" && find crates crates.txt checks bench gp -name out -prune -o -type f -print0 | xargs -0 grep -ohIE '[A-Za-z_][A-Za-z0-9_]*') |
   sort -u >names

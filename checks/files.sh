@@ -26,6 +26,27 @@ done <options
 [ "$(grep -c '^\.BI --' page)" = "$(wc -l <options)" ] || fail "docs/gp.1 has other options than docs/COMMANDS.md"
 sed -n '/^\.SH EXIT STATUS/,/^\.SH ENV/p' page | sed -n 's/^\.B \([0-9]*\)$/\1/p' >got
 { cut -f 1 statuses && echo 125; } | cmp -s - got || fail "docs/gp.1 has the statuses $(paste -sd, got)"
+# Its examples, as they are typed: each ends well, or by the status that stands above it, and each text of a profile shows a sample.
+ln -s -- "$gp" gp
+ln -s -- "$top/examples" .
+has_go=no
+command -v go >/dev/null && go tool -n pprof >/dev/null 2>&1 && has_go=yes
+shown=0 wanted=0
+while IFS= read -r line; do
+  case $line in
+    *'(status '*) wanted=$(sed 's/.*(status \([0-9]*\)).*/\1/' <<<"$line") ;;
+    'gp '* | 'go tool '*)
+      [[ $line == gp* || $has_go = yes ]] || continue
+      shown=$((shown + 1))
+      PATH=$PWD:$PATH bash -c "$line" >said 2>told </dev/null
+      got=$?
+      [ "$got" = "$wanted" ] || fail "docs/gp.1: '$line' has status $got in place of $wanted: $(cat said told)"
+      [[ $line != *dump* ]] || grep -q '^sample ' said || fail "docs/gp.1: '$line' shows no sample: $(cat said)"
+      wanted=0
+      ;;
+  esac
+done < <(sed -n '/^\.SH EXAMPLES/,/^\.SH SEE/p' page)
+[ "$shown" -ge 7 ] || fail "docs/gp.1 has $shown examples"
 if command -v groff >/dev/null && groff -man -Tutf8 </dev/null >/dev/null 2>&1; then
   warned=$(groff -man -ww -z -Tutf8 "$top/docs/gp.1" 2>&1)
   [ -z "$warned" ] || fail "groff warns of docs/gp.1: $warned"

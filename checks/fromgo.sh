@@ -7,10 +7,7 @@ if ! command -v python3 >/dev/null; then
   echo "skipped: no python3"
   exit 0
 fi
-if [ "${CI:-}" = true ] && ! command -v go >/dev/null; then
-  timeout 120 apt-get update >/dev/null 2>&1
-  timeout 120 apt-get install -y golang-go >/dev/null 2>&1
-fi
+want go golang-go
 has_go=no
 command -v go >/dev/null && go tool -n pprof >/dev/null 2>&1 && has_go=yes
 [ "$has_go" = yes ] || echo "skipped: no go"

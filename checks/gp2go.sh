@@ -4,10 +4,7 @@
 # labels. Whoever waits in these programs waits for a tenth of a second, so that it's no matter of chance; where a machine is so busy
 # that it is one, a program is run again, twice at most.
 . "$(dirname -- "${BASH_SOURCE[0]}")/head.bash"
-if [ "${CI:-}" = true ] && ! command -v go >/dev/null; then
-  timeout 120 apt-get update >/dev/null 2>&1
-  timeout 120 apt-get install -y golang-go >/dev/null 2>&1
-fi
+want go golang-go
 for tool in python3 go; do
   if ! command -v "$tool" >/dev/null; then
     echo "skipped: no $tool"

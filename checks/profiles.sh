@@ -45,15 +45,6 @@ summary() {
   done
 }
 
-# In CI the tools may be installed; a user's machine is left as it is.
-install_tools() {
-  [ "${CI:-}" = true ] || return
-  command -v go >/dev/null && command -v protoc >/dev/null && return
-  timeout 120 apt-get update >/dev/null 2>&1
-  command -v go >/dev/null || timeout 120 apt-get install -y golang-go >/dev/null 2>&1
-  command -v protoc >/dev/null || timeout 120 apt-get install -y protobuf-compiler >/dev/null 2>&1
-}
-
 # raw FILE PATTERN: pprof's raw print of a profile has a line that fits.
 raw() {
   [ "$has_go" = yes ] || return
@@ -163,7 +154,8 @@ texts() {
   decoded "$file" "${pattern//./\\.} 11 \{"
 }
 
-install_tools
+want go golang-go
+want protoc protobuf-compiler
 has_go=no
 has_protoc=no
 command -v go >/dev/null && go tool -n pprof >/dev/null 2>&1 && has_go=yes
