@@ -1,5 +1,5 @@
 #!/usr/bin/env bash
-# Lets samples go through rings of the least sizes between two threads that pause at random, for five seconds, or as many as its word
+# Lets samples go through rings of the least sizes between two threads that pause at random, for ten seconds, or as many as its word
 # says: each sample came or was counted lost once, in order, and the reader met the end. The program of the ring's tests does it, in
 # both builds that `rt ci` left; where there is none it is proved and built first.
 . "$(dirname -- "${BASH_SOURCE[0]}")/head.bash"
@@ -29,7 +29,7 @@ crossing() {
 }
 
 samples=100000 went=0 lost=0 number=0
-until=$((SECONDS + ${1:-5}))
+until=$((SECONDS + ${1:-10}))
 while [ "$failures" = 0 ] && [ "$SECONDS" -lt "$until" ]; do
   for ring in '8 1' '8 2' '8 4' '16 1' '16 2' '16 4'; do
     for program in "${programs[@]}"; do
